@@ -1,0 +1,108 @@
+ghost use Rattle.std.specs.Prelude.{◌≡◌, ◌≤◌, ◌<◌, ℕ, None, false, length, is_some, IfOk};
+ghost use Rattle.venue_words.specs.Causes.{HasCause, Rose};
+
+use crate::edge::{Failed, Shelf, Sink};
+use std::fs;
+use std::io::{Read, Write};
+use std::rt::Files;
+
+/// The files of the system. It tells nothing of what they hold.
+#[derive(Drop)]
+pub struct FileShelf<'a, R: Files> {
+    rt: &'a R,
+    file: Option<R::File>,
+    faults: u64,
+}
+
+impl<'a, R: Files> FileShelf<'a, R> {
+    pub fn new(rt: &'a R) -> FileShelf<'a, R> {
+        FileShelf {
+            rt,
+            file: None,
+            faults: 0,
+        }
+    }
+
+    fn fail(&mut self) -> Failed
+        ensures later { self.old.faults ≤ self.new.faults }
+        ensures rose { Rose self.old.faults self.new.faults }
+        ensures same { self.new ≡ record self.old { faults = self.new.faults } }
+    {
+        self.faults = self.faults.saturating_add(1);
+        Failed
+    }
+}
+
+impl<'a, R: Files> Shelf for FileShelf<'a, R> {
+    ghost faults = { λ s. s.faults };
+
+    ghost told = { λ _. None };
+
+    ghost left = { λ _. None };
+
+    ghost begun = { λ s. is_some s.file };
+
+    ghost sure = { λ _. false };
+
+    fn begin(&mut self, name: &str) -> Result<(), Failed> {
+        match fs::open(self.rt, name) {
+            Ok(file) => {
+                self.file = Some(file);
+                Ok(())
+            }
+            Err(_) => Err(self.fail()),
+        }
+    }
+
+    fn pull(&mut self, buffer: &mut [u8]) -> Result<usize, Failed> {
+        let count = match &mut self.file {
+            Some(file) => file.read(buffer),
+            None => return Ok(0),
+        };
+        match count {
+            Ok(count) => Ok(count),
+            Err(_) => Err(self.fail()),
+        }
+    }
+}
+
+/// A stream of the system. It tells nothing of what it has.
+#[derive(Drop)]
+pub struct StreamSink<W: Write> {
+    inner: W,
+    faults: u64,
+}
+
+impl<W: Write> StreamSink<W> {
+    pub fn new(inner: W) -> StreamSink<W> {
+        StreamSink { inner, faults: 0 }
+    }
+
+    /// Writes the front of the piece, and says what is left of it.
+    fn put_some(&mut self, piece: &[u8]) -> Result<usize, Failed>
+        ensures cause { HasCause self.old.faults self.new.faults result }
+        ensures count { IfOk result (λ n. (0 < n) × (n ≤ length piece.now)) }
+    {
+        match self.inner.write(piece) {
+            Ok(count) if 0 < count && count <= piece.len() => Ok(count),
+            _ => {
+                self.faults = self.faults.saturating_add(1);
+                Err(Failed)
+            }
+        }
+    }
+}
+
+impl<W: Write> Sink for StreamSink<W> {
+    ghost faults = { λ s. s.faults };
+
+    ghost told = { λ _. None };
+
+    fn put(&mut self, piece: &[u8]) -> Result<(), Failed> {
+        let mut done = 0usize;
+        while done < piece.len() {
+            done += self.put_some(&piece[done..])?;
+        }
+        Ok(())
+    }
+}

@@ -1,0 +1,30 @@
+//! The words that every crate of the venue speaks: orders, quotes, reports and journals, the meaning
+//! of a price and of priority, and the two interfaces through which commands reach a book.
+#![tactic(auto)]
+
+pub mod bytes;
+pub mod command;
+pub mod config;
+pub mod floor;
+pub mod held;
+pub mod items;
+pub mod price;
+pub mod refusal;
+pub mod report;
+pub mod row;
+pub mod steps;
+
+pub use bytes::Bytes;
+pub use command::{Command, Event, Rule, Terms};
+pub use config::Config;
+pub use floor::Floor;
+pub use held::Held;
+pub use items::Items;
+pub use price::{Best, PRICE_END, Side, price_of, value};
+pub use refusal::{FloorRefusal, NoMemory};
+pub use report::{Kind, Look, Report, View};
+pub use row::{Key, Method, Priced, Reference, Rounding, Row, same_key};
+pub use steps::Steps;
+
+#[cfg(test)]
+mod tests;
