@@ -1,0 +1,50 @@
+//! Fields, and why bytes are no list of them.
+ghost use Rattle.std.specs.Prelude.{◌≡◌};
+
+use std::alloc::{AllocError, AllocFailed};
+use venue_words::Bytes;
+
+/// The most bytes that are split into fields: those of the longest frame.
+pub const LONGEST_CONTENT: usize = 8192;
+
+/// A field of a message: its tag, from 1 to 99,999, and the bytes of its value.
+#[derive(Debug, Drop)]
+pub struct Field {
+    pub tag: u32,
+    pub bytes: Bytes,
+}
+
+/// Why bytes are no list of fields. The place `at` is that of the field's first byte, counted from 0.
+#[derive(Clone, Copy, Debug, PartialEq, Eq, Drop)]
+pub enum FieldFault {
+    /// No `=` stands before the SOH that ends the field.
+    NoEquals { at: u32 },
+    /// What stands before `=` is no tag.
+    BadTag { at: u32 },
+    /// No SOH ends the field.
+    NoEnd { at: u32 },
+    /// The length in a field 95 or 354 is no number, and `at` is that field's place; or the field 96 or 355 with
+    /// so many bytes does not stand behind it, and `at` is the place where it should begin.
+    DataShort { at: u32 },
+    NoMemory,
+}
+
+impl From<AllocError> for FieldFault {
+    ghost use Rattle.fix_fields.specs.declared.field.FieldFault.TheVariants.{NoMemory};
+
+    ghost from_gives = { λ _ fault. fault ≡ NoMemory };
+
+    fn from(_error: AllocError) -> FieldFault {
+        FieldFault::NoMemory
+    }
+}
+
+impl<T: Drop> From<AllocFailed<T>> for FieldFault {
+    ghost use Rattle.fix_fields.specs.declared.field.FieldFault.TheVariants.{NoMemory};
+
+    ghost from_gives = { λ _ fault. fault ≡ NoMemory };
+
+    fn from(_error: AllocFailed<T>) -> FieldFault {
+        FieldFault::NoMemory
+    }
+}

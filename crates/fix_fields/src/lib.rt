@@ -1,0 +1,15 @@
+//! Reads the fields of a message and the values that stand in them.
+#![tactic(auto)]
+
+pub mod field;
+pub mod forms;
+pub mod moments;
+pub mod splitting;
+
+pub use field::{Field, FieldFault, LONGEST_CONTENT};
+pub use forms::{amount, number};
+pub use moments::moment;
+pub use splitting::fields;
+
+#[cfg(test)]
+mod tests;

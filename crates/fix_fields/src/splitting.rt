@@ -1,0 +1,145 @@
+//! Splits the content of a frame into fields.
+ghost use Rattle.std.specs.Prelude.{◌≡◌, ℕ, ◌+◌, ◌<◌, ◌≤◌, length, drop, List, Option, IfOk};
+ghost use Rattle.fix_fields.specs.Forms.{tag_of};
+ghost use Rattle.fix_fields.specs.Fields.{is_length, data_behind, plain_cut, data_cut, cut_at, split, CutsAs, SplitsAs};
+ghost use Rattle.fix_fields.specs.Spelling.{AreFields, spellings};
+ghost use Rattle.fix_fields.specs.declared.field.Field.{Field};
+
+use crate::field::{Field, FieldFault, LONGEST_CONTENT};
+use crate::forms::{number, numeral, place_of};
+use std::alloc::Global;
+use venue_words::Bytes;
+
+/// What ends a field.
+const SOH: u8 = 1;
+
+/// RawDataLength and EncodedTextLen, which give the length of the field behind them.
+const RAW_DATA_LENGTH: u32 = 95;
+const ENCODED_TEXT_LEN: u32 = 354;
+
+/// The data that must follow a field which gives its length.
+#[derive(Clone, Copy, Debug)]
+pub(crate) struct Due {
+    tag: u32,
+    size: u32,
+}
+
+/// The tag that bytes spell: 1 to 5 digits, the first not 0.
+#[tactic(auto, unfolding(crate::specs::Forms::tag_of))]
+fn tag_of(bytes: &[u8]) -> Option<u32>
+    ensures { result ≡ tag_of bytes.now }
+{
+    if bytes.is_empty() || bytes.len() > 5 || bytes[0] == b'0' {
+        return None;
+    }
+    match numeral(bytes) {
+        Some(value) => Some(value as u32),
+        None => None,
+    }
+}
+
+/// Whether a field gives the length of the data behind it.
+fn is_length(tag: u32) -> bool
+    ensures { result ≡ is_length tag }
+{
+    tag == RAW_DATA_LENGTH || tag == ENCODED_TEXT_LEN
+}
+
+/// The data that must follow a field.
+#[tactic(auto, unfolding(crate::specs::Fields::data_behind))]
+fn data_behind(tag: u32, bytes: &[u8]) -> Option<Due>
+    ensures { result ≡ data_behind tag bytes.now }
+{
+    if !is_length(tag) {
+        return None;
+    }
+    let size = number(bytes)?;
+    Some(Due { tag: tag + 1, size })
+}
+
+/// The field at the front of the rest, which ends at the first SOH, and how many bytes it takes.
+#[tactic(auto, unfolding(crate::specs::Fields::plain_cut))]
+fn plain_field(alloc: Global, at: u32, rest: &[u8]) -> Result<(Field, usize), FieldFault>
+    ensures value { CutsAs result (plain_cut at rest.now) }
+    ensures size { IfOk result (λ cut. (0 < cut.1) × (cut.1 ≤ length rest.now)) }
+{
+    let end = place_of(SOH, rest).ok_or(FieldFault::NoEnd { at })?;
+    let line = &rest[..end];
+    let equals = place_of(b'=', line).ok_or(FieldFault::NoEquals { at })?;
+    let tag = tag_of(&line[..equals]).ok_or(FieldFault::BadTag { at })?;
+    let bytes = &line[equals + 1..];
+    if is_length(tag) && number(bytes).is_none() {
+        return Err(FieldFault::DataShort { at });
+    }
+    let bytes = Bytes::copy_of(alloc, bytes)?;
+    Ok((Field { tag, bytes }, end + 1))
+}
+
+/// The field with the data that must stand at the front of the rest, and how many bytes it takes.
+#[tactic(auto, unfolding(crate::specs::Fields::data_cut))]
+fn data_field(alloc: Global, at: u32, due: Due, rest: &[u8]) -> Result<(Field, usize), FieldFault>
+    ensures value { CutsAs result (data_cut at due rest.now) }
+    ensures size { IfOk result (λ cut. (0 < cut.1) × (cut.1 ≤ length rest.now)) }
+{
+    let front: &[u8] = if due.tag == 96 { b"96=" } else { b"355=" };
+    let start = front.len();
+    let end = start + due.size as usize;
+    if !rest.starts_with(front) || rest.len() <= end || rest[end] != SOH {
+        return Err(FieldFault::DataShort { at });
+    }
+    let tag = due.tag;
+    let bytes = Bytes::copy_of(alloc, &rest[start..end])?;
+    Ok((Field { tag, bytes }, end + 1))
+}
+
+/// The next field, and how many bytes it takes.
+fn next_field(
+    alloc: Global,
+    at: u32,
+    due: Option<Due>,
+    rest: &[u8],
+) -> Result<(Field, usize), FieldFault>
+    ensures value { CutsAs result (cut_at at due rest.now) }
+    ensures size { IfOk result (λ cut. (0 < cut.1) × (cut.1 ≤ length rest.now)) }
+{
+    match due {
+        None => plain_field(alloc, at, rest),
+        Some(due) => data_field(alloc, at, due, rest),
+    }
+}
+
+/// The fields, one by one from the front.
+fn split_fields(alloc: Global, bytes: &[u8]) -> Result<Vec<Field>, FieldFault>
+    requires { length bytes.now ≤ LONGEST_CONTENT }
+    ensures { SplitsAs result (split bytes.now) }
+{
+    let mut found = Vec::new(alloc);
+    let mut due: Option<Due> = None;
+    let mut at = 0;
+    while at < bytes.len() || due.is_some() {
+        let (field, size) = next_field(alloc, at as u32, due, &bytes[at..])?;
+        due = data_behind(field.tag, field.bytes.as_slice());
+        found.push(field)?;
+        at += size;
+    }
+    Ok(found)
+}
+
+/// The fields of the content of a frame: what stands between BodyLength and CheckSum, with tag, `=`, value and SOH
+/// one behind the other. A value holds no SOH, except in RawData (96) and EncodedText (355), which have as many bytes
+/// as the field before them says (95, 354). An error is the first fault from the left.
+pub fn fields(alloc: Global, bytes: &[u8]) -> Result<Vec<Field>, FieldFault>
+    requires { length bytes.now ≤ LONGEST_CONTENT }
+
+    // What is found is fields, and spells the bytes.
+    ensures found { IfOk result (λ v. AreFields None v.items × (bytes.now ≡ spellings v.items)) }
+
+    // Where fields spell the bytes, they are found, unless memory runs out.
+    ensures only { (fields : List Field) → AreFields None fields → bytes.now ≡ spellings fields
+        → SplitsAs result (Ok fields) }
+
+    // Which fault it is, and where.
+    ensures exact { SplitsAs result (split bytes.now) }
+{
+    split_fields(alloc, bytes)
+}
