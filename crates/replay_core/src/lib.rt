@@ -1,13 +1,20 @@
-// A library with one function.
+//! The whole of a replay: a script from a shelf, its transcript to a sink, and a status with its text.
 #![tactic(auto)]
 
-ghost use Rattle.std.specs.Prelude.{◌≡◌};
-ghost use Rattle.replay_core.specs.Echo.{echo_of};
+pub mod complete;
+pub mod fault;
+pub mod phase;
+pub mod pieces;
+pub mod player;
+pub mod reading;
+pub mod replay;
+pub mod replaying;
+pub mod status;
+pub mod telling;
 
-// The `ensures` clause is the contract: what `echo` returns is `echo_of` of its argument, a definition
-// in `specs/Echo.antt`, which a caller's clause can cite too.
-pub fn echo(x: usize) -> usize
-    ensures { result ≡ echo_of x }
-{
-    x
-}
+pub use fault::Fault;
+pub use player::Player;
+pub use status::Status;
+
+#[cfg(test)]
+mod tests;

@@ -11,7 +11,7 @@ use Rattle.script_text.specs.declared.fault.LineCause.TheVariants.{NoEnd, BadHea
 use Rattle.script_text.specs.declared.fault.LimitCause.{LimitCause}
 use Rattle.script_text.specs.declared.fault.LimitCause.TheVariants.{Line, Members, Markets, Symbols, EventsSum}
 use Rattle.venue_words.specs.Conditions.{most_events}
-use Rattle.script_text.specs.Words.{words_of, is_name, limit_of, tick_of, moment_of}
+use Rattle.script_text.specs.Words.{words_of, is_name, limit_of, tick_of, script_moment}
 
 -- whether the header is complete with this line, and what it says by then
 abbrev pub Step : Type 0
@@ -85,7 +85,7 @@ begins n header (Some moment) =
     Ok (true, with_config header (record header.config { begin = moment }))
 
 unfoldable pub begin_line : ℕ → Header → List ℕ → Step
-begin_line n header moment = begins n header (moment_of moment)
+begin_line n header moment = begins n header (script_moment moment)
 
 -- the words behind `SYMBOL`: the tick is 0.01 in version 1 and stands there in version 2
 abbrev pub symbol_words : ℕ → Header → List (List ℕ) → Step

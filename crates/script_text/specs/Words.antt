@@ -3,6 +3,7 @@ use Rattle.std.specs.Prelude.{◌≡◌, ℕ, ◌+◌, ◌-◌, ◌*◌, ◌&&�
 use Rattle.std.specs.List.{list_all, slice_split}
 use Rattle.std.specs.Str.{bytes_eq}
 use Rattle.venue_words.specs.Conditions.{most_events}
+use Rattle.fix_fields.specs.Forms.{moment_of}
 
 -- the words of a line are parted by one space
 abbrev pub words_of : List ℕ → List (List ℕ)
@@ -38,6 +39,6 @@ unfoldable pub tick_of : List ℕ → Option ℕ
 tick_of text = if bytes_eq text (codes "0.01") then Some 2
     else if bytes_eq text (codes "0.05") then Some 10 else None
 
--- the moment, in milliseconds since 1970; a stand-in that knows one moment
-unfoldable pub moment_of : List ℕ → Option ℤ
-moment_of text = if bytes_eq text (codes "20240102-14:30:00.000") then Some (pos 1704205800000) else None
+-- a moment with just three places behind the second, in milliseconds since 1970-01-01 00:00 UTC
+unfoldable pub script_moment : List ℕ → Option ℤ
+script_moment text = if length text == 21 then moment_of text else None

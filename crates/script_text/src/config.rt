@@ -1,3 +1,4 @@
+//! A config: a header that nothing follows.
 ghost use Rattle.std.specs.Prelude.{◌≡◌, ◌<◌, ◌≤◌, ◌+◌, ◌^◌, ◌-◌, length, nat_lt, if◌then◌else◌};
 ghost use Rattle.script_text.specs.declared.fault.LineFault.TheVariants.{Bad, Limit};
 ghost use Rattle.script_text.specs.declared.fault.LimitCause.TheVariants.{Line};

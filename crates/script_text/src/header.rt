@@ -4,10 +4,10 @@ ghost use Rattle.std.specs.List.{list_any};
 ghost use Rattle.std.specs.Str.{bytes_eq};
 ghost use Rattle.script_text.specs.Meets.{Meets};
 ghost use Rattle.venue_words.specs.Conditions.{most_events};
-ghost use Rattle.script_text.specs.Words.{is_name, limit_of, tick_of, moment_of};
+ghost use Rattle.script_text.specs.Words.{is_name, limit_of, tick_of, script_moment};
 
 use crate::fault::{LimitCause, LineCause, LineFault};
-use crate::words::{MAX_EVENTS, is_name, limit_of, moment_of, tick_of, words_of};
+use crate::words::{MAX_EVENTS, is_name, limit_of, script_moment, tick_of, words_of};
 use std::alloc::Global;
 use venue_words::{Bytes, Config, Items};
 
@@ -170,12 +170,7 @@ impl Header {
     }
 
     /// The words behind `SYMBOL`.
-    fn symbol_words(
-        &mut self,
-        alloc: Global,
-        line: u32,
-        words: &[&[u8]],
-    ) -> Result<bool, LineFault>
+    fn symbol_words(&mut self, alloc: Global, line: u32, words: &[&[u8]]) -> Result<bool, LineFault>
         ensures { Meets (symbol_words line self.old (map (λ word. word.now) words.now)) (with_header result self.new) }
     {
         match words {
@@ -194,7 +189,7 @@ impl Header {
     fn begin(&mut self, line: u32, moment: &[u8]) -> Result<bool, LineFault>
         ensures { begin_line line self.old moment.now ≡ with_header result self.new }
     {
-        let Some(moment) = moment_of(moment) else {
+        let Some(moment) = script_moment(moment) else {
             return Err(LineFault::Bad {
                 line,
                 cause: LineCause::BadMoment,
@@ -250,12 +245,7 @@ impl Header {
         })
     }
 
-    fn keyed_line(
-        &mut self,
-        alloc: Global,
-        line: u32,
-        words: &[&[u8]],
-    ) -> Result<bool, LineFault>
+    fn keyed_line(&mut self, alloc: Global, line: u32, words: &[&[u8]]) -> Result<bool, LineFault>
         ensures { Meets (keyed_line line self.old (map (λ word. word.now) words.now)) (with_header result self.new) }
     {
         let Some((key, behind)) = words.split_first() else {
@@ -309,4 +299,3 @@ impl Header {
         self.keyed_line(alloc, line, words.as_slice())
     }
 }
-

@@ -1,7 +1,9 @@
+//! The words of a line, and the forms that they may have.
 ghost use Rattle.std.specs.Prelude.{◌≡◌, ◌<◌, ◌≤◌, ◌^◌, ◌==◌, ◌+◌, ◌∷◌, [], map, take, drop, IfOk, IfSome, IfNone, length, position};
 ghost use Rattle.std.specs.List.{list_all};
-ghost use Rattle.script_text.specs.Words.{words_of, is_name, limit_of, tick_of, moment_of, is_letter, is_digit, is_name_byte};
+ghost use Rattle.script_text.specs.Words.{words_of, is_name, limit_of, tick_of, script_moment, is_letter, is_digit, is_name_byte};
 
+use fix_fields::moment;
 use std::alloc::{AllocError, Global};
 
 /// The greatest number of events of a symbol, and of all symbols.
@@ -116,14 +118,10 @@ pub fn tick_of(text: &[u8]) -> Option<u32>
     }
 }
 
-/// The moment that a text writes.
-#[tactic(auto, unfolding(crate::specs::Words::moment_of))]
-pub fn moment_of(text: &[u8]) -> Option<i64>
-    ensures { result ≡ moment_of text.now }
+/// The moment that a text writes as `YYYYMMDD-HH:MM:SS.sss`, in milliseconds since 1970-01-01 00:00 UTC.
+#[tactic(auto, unfolding(crate::specs::Words::script_moment))]
+pub fn script_moment(text: &[u8]) -> Option<i64>
+    ensures { result ≡ script_moment text.now }
 {
-    if text == b"20240102-14:30:00.000".as_slice() {
-        Some(1_704_205_800_000)
-    } else {
-        None
-    }
+    if text.len() == 21 { moment(text) } else { None }
 }
