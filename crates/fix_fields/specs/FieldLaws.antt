@@ -1,21 +1,21 @@
 -- The split is the one list of fields that spells the bytes.
-use Rattle.std.proofs.Common.{◌≡◌, ℕ, zero, suc, ◌+◌, ◌-◌, ◌<◌, ◌≤◌, Bool, true, false, ◌&&◌, ◌||◌, cond, eqb, List, [], ◌∷◌, ◌++◌, length, take, drop, get_or, Option, Some, None, Result, Ok, Err, ◌⊎◌, inl, inr, refl, sym, ◌∙◌, ap, subst, arith, append_assoc, length-append, length-drop, length-take, eqb→eq}
+use Rattle.std.proofs.Common.{◌≡◌, ℕ, zero, suc, ◌+◌, ◌-◌, ◌<◌, Bool, true, false, ◌&&◌, ◌||◌, cond, eqb, List, [], ◌∷◌, ◌++◌, length, take, drop, get_or, Option, Some, None, Result, Ok, Err, ◌⊎◌, inl, inr, refl, sym, ◌∙◌, ap, subst, arith, append_assoc, length-append, length-drop}
 use Rattle.std.specs.Prelude.{decimal, is_none, IsSome}
 use Rattle.std.specs.Option.{ok_or, option_map}
 use Rattle.std.specs.Fmt.{digits}
-use Rattle.std.specs.List.{position, list_any, flat_map, starts_with}
+use Rattle.std.specs.List.{position, list_any, starts_with}
 use Rattle.std.proofs.lemmas.Bool.{cases_lt}
 use Rattle.std.proofs.lemmas.Bool.Decides.{nat_tests}
-use Rattle.std.proofs.lemmas.List.{take-append-drop, take_at, drop_at, drop_more, get_or_past, length-take-le, drop-drop, append-nil, get_or_at, get_or-append-add}
+use Rattle.std.proofs.lemmas.List.{take-append-drop, take_at, drop_at, drop_more, get_or_past, length-take-le, drop-drop, get_or_at, get_or-append-add}
 use Rattle.std.proofs.lemmas.List.Folds.{list_any-append}
 use lib.Pointwise.{bytes_decides}
 use Rattle.fix_fields.specs.declared.field.Field.{Field}
 use Rattle.fix_fields.specs.declared.field.FieldFault.{FieldFault}
-use Rattle.fix_fields.specs.declared.field.FieldFault.TheVariants.{NoEquals, BadTag, NoEnd, DataShort, NoMemory}
+use Rattle.fix_fields.specs.declared.field.FieldFault.TheVariants.{NoEquals, BadTag, NoEnd, DataShort}
 use Rattle.fix_fields.specs.declared.splitting.Due.{Due}
 use Rattle.fix_fields.specs.Forms.{tag_of, number_of}
 use Rattle.fix_fields.specs.Fields.{◌>>=◌, is_end, is_equals, is_length, data_behind, Cut, data_front, plain_cut, data_cut, cut_at, with_first, split_from, split}
-use Rattle.fix_fields.specs.Marks.{IsFirst, first_of, position-first, or_false}
+use Rattle.fix_fields.specs.Marks.{first_of, position-first, or_false}
 use Rattle.fix_fields.specs.Tags.{tag_found, tag_again, tag_no_end, tag_no_equals, and_true}
 use Rattle.fix_fields.specs.Spelling.{spelling, spellings, IsPlain, IsData, AreFields}
 

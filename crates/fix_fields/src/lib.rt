@@ -8,7 +8,7 @@ pub mod splitting;
 
 pub use field::{Field, FieldFault, LONGEST_CONTENT};
 pub use forms::{amount, number};
-pub use moments::moment;
+pub use moments::{FIRST_MOMENT, LAST_MOMENT, moment};
 pub use splitting::fields;
 
 #[cfg(test)]

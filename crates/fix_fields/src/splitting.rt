@@ -15,6 +15,7 @@ const SOH: u8 = 1;
 
 /// RawDataLength and EncodedTextLen, which give the length of the field behind them.
 const RAW_DATA_LENGTH: u32 = 95;
+
 const ENCODED_TEXT_LEN: u32 = 354;
 
 /// The data that must follow a field which gives its length.
