@@ -1,4 +1,4 @@
--- What the exact answer says of spellings fields.
+-- What the exact answer says of fields that spell the bytes.
 use Rattle.std.proofs.Common.{◌≡◌, ℕ, List, None, Result, Ok, Err, ◌∙◌, ap, subst}
 use Rattle.std.specs.Prelude.{IfOk}
 use Rattle.std.specs.declared.vec.Vec.{Vec}

@@ -32,12 +32,15 @@ unsigned_amount bytes =
     let whole = before_first is_point bytes in
     let fraction = after_first is_point bytes in
     if nat_lt 18 (length whole) || (nat_lt 8 (length fraction) || (length whole + length fraction == 0)) then None
-    else option_and_then (λ units. option_map (λ parts. units * 10 ^ 8 + parts * 10 ^ (8 - length fraction)) (numeral fraction)) (numeral whole)
+    else option_and_then (λ units. option_map (λ parts.
+    units * 10 ^ 8 + parts * 10 ^ (8 - length fraction))
+    (numeral fraction)) (numeral whole)
 
 -- an amount, which may be negative
 unfoldable pub amount_of : List ℕ → Option ℤ
 amount_of bytes =
-    option_map (λ units. if slice_index bytes 0 == 45 then neg_ℤ (pos units) else pos units) (unsigned_amount (unsigned_part bytes))
+    option_map (λ units. if slice_index bytes 0 == 45 then neg_ℤ (pos units) else pos units)
+    (unsigned_amount (unsigned_part bytes))
 
 -- whether the calendar has the date
 abbrev pub is_date : ℕ → ℕ → ℕ → Bool
