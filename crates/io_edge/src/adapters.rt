@@ -1,3 +1,4 @@
+//! The trusted edge: real files and streams. Nothing is claimed of what they hold.
 ghost use Rattle.std.specs.Prelude.{◌≡◌, ◌≤◌, ◌<◌, ℕ, None, false, length, is_some, IfOk};
 ghost use Rattle.venue_words.specs.Causes.{HasCause, Rose};
 
@@ -15,6 +16,7 @@ pub struct FileShelf<'a, R: Files> {
 }
 
 impl<'a, R: Files> FileShelf<'a, R> {
+    /// Over the files of the system; none is open.
     pub fn new(rt: &'a R) -> FileShelf<'a, R> {
         FileShelf {
             rt,
@@ -74,6 +76,7 @@ pub struct StreamSink<W: Write> {
 }
 
 impl<W: Write> StreamSink<W> {
+    /// Over a stream of the system, as standard output.
     pub fn new(inner: W) -> StreamSink<W> {
         StreamSink { inner, faults: 0 }
     }
@@ -104,5 +107,59 @@ impl<W: Write> Sink for StreamSink<W> {
             done += self.put_some(&piece[done..])?;
         }
         Ok(())
+    }
+}
+
+#[cfg(test)]
+mod tests {
+    use super::*;
+    use std::io;
+    use std::test::Fail;
+
+    #[test]
+    fn a_real_file_is_read_to_its_end(rt: HostRuntime) -> Result<(), Fail> {
+        fs::write(&rt, "shelf.tmp", "hello")?;
+        let mut shelf = FileShelf::new(&rt);
+        let mut buffer = [0u8; 8];
+        assert!(rt; shelf.begin("no such file").is_err());
+        assert!(rt; shelf.begin("shelf.tmp").is_ok());
+        let count = shelf.pull(&mut buffer).unwrap_or(0);
+        assert_eq!(rt; count, 5);
+        assert_eq!(rt; &buffer[..5], b"hello".as_slice());
+        assert_eq!(rt; shelf.pull(&mut buffer).unwrap_or(9), 0);
+        fs::remove_file(&rt, "shelf.tmp")?;
+        Ok(())
+    }
+
+    /// Takes at most two bytes at a time, and six in all.
+    #[derive(Drop)]
+    struct Narrow {
+        bytes: Vec<u8>,
+    }
+
+    impl Write for Narrow {
+        fn write(&mut self, buf: &[u8]) -> io::Result<usize> {
+            let count = buf
+                .len()
+                .min(2)
+                .min(6usize.saturating_sub(self.bytes.len()));
+            self.bytes.extend_from_slice(&buf[..count])?;
+            Ok(count)
+        }
+
+        fn flush(&mut self) -> io::Result<()> {
+            Ok(())
+        }
+    }
+
+    #[test]
+    fn a_stream_is_given_every_byte_or_fails(rt: HostRuntime) {
+        let mut sink = StreamSink::new(Narrow {
+            bytes: Vec::new(rt.alloc()),
+        });
+        assert!(rt; sink.put(b"hello").is_ok());
+        assert_eq!(rt; sink.inner.bytes.as_slice(), b"hello".as_slice());
+        assert!(rt; sink.put(b"xyz").is_err());
+        assert_eq!(rt; sink.inner.bytes.as_slice(), b"hellox".as_slice());
     }
 }

@@ -1,3 +1,4 @@
+//! The outside in memory, for tests and for programs that hold their input.
 ghost use Rattle.std.specs.Prelude.{◌≡◌, ◌<◌, ◌≤◌, ◌+◌, ◌-◌, ◌^◌, ◌==◌, ◌++◌, ℕ, Bool, true, false, List, Some, None, [], length, take, drop, min, vec_len, IsTrue, IsSome, IfSome, MatchOption, slice_get, is_some};
 ghost use Rattle.venue_words.specs.Causes.{HasCause, Rose};
 ghost use Rattle.std.specs.Io.KnownBytes.{Consumes, IsAtEnd};
@@ -245,6 +246,7 @@ pub struct MemSink {
 }
 
 impl MemSink {
+    /// Nothing was put yet. Want of memory counts as a fault.
     pub fn new(alloc: Global, fails: Vec<u64>) -> MemSink
         ensures told { ⟦<MemSink as Sink>⟧.told result ≡ Some [] }
         ensures faults { ⟦<MemSink as Sink>⟧.faults result ≡ 0 }
@@ -282,6 +284,7 @@ impl Sink for MemSink {
 pub struct SureSink;
 
 impl SureSink {
+    /// A sink that never fails.
     pub fn new() -> SureSink {
         SureSink
     }
@@ -322,7 +325,7 @@ mod tests {
     }
 
     #[test]
-    fn shelves_give_pieces(rt: HostRuntime) -> Result<(), Fail> {
+    fn shelves_in_memory_give_pieces(rt: HostRuntime) -> Result<(), Fail> {
         let mut shelf = MemShelf::new(one_file(rt.alloc())?, 3, vec![in rt.alloc(); 5]?);
         assert_eq!(rt; sizes(&mut shelf), (3, 2, false));
         let mut sure = SureShelf::new(one_file(rt.alloc())?, 9);
@@ -331,7 +334,7 @@ mod tests {
     }
 
     #[test]
-    fn sinks_keep_bytes(rt: HostRuntime) -> Result<(), Fail> {
+    fn sinks_in_memory_keep_what_was_put(rt: HostRuntime) -> Result<(), Fail> {
         let mut sink = MemSink::new(rt.alloc(), vec![in rt.alloc(); 2]?);
         assert!(rt; sink.put(b"ab").is_ok());
         assert!(rt; sink.put(b"cd").is_err());

@@ -1,0 +1,12 @@
+//! The text of scripts: their lines, their header, and why a line is refused.
+#![tactic(auto)]
+
+pub mod config;
+pub mod fault;
+pub mod header;
+pub mod lines;
+pub mod words;
+
+pub use config::read_header;
+pub use fault::{LimitCause, LineCause, LineFault};
+pub use header::{Header, MAX_LINE_BYTES};

@@ -1,0 +1,129 @@
+ghost use Rattle.std.specs.Prelude.{◌≡◌, ◌<◌, ◌≤◌, ◌^◌, ◌==◌, ◌+◌, ◌∷◌, [], map, take, drop, IfOk, IfSome, IfNone, length, position};
+ghost use Rattle.std.specs.List.{list_all};
+ghost use Rattle.script_text.specs.Words.{words_of, is_name, limit_of, tick_of, moment_of, is_letter, is_digit, is_name_byte};
+
+use std::alloc::{AllocError, Global};
+
+/// The greatest number of events of a symbol, and of all symbols.
+pub const MAX_EVENTS: u32 = 2_097_152;
+
+fn space_at(text: &[u8]) -> Option<usize>
+    ensures place { result ≡ position (λ b. b == 32) text.now }
+    ensures within { IfSome result (λ at. at < length text.now) }
+{
+    text.iter().position(|b| *b == b' ')
+}
+
+/// The place of the first space.
+#[tactic(auto, using(crate::proofs::Spaces::cut_at, crate::proofs::Spaces::cut_none))]
+fn first_space(text: &[u8]) -> Option<usize>
+    ensures found { IfSome result (λ at. words_of text.now ≡ take at text.now ∷ words_of (drop (at + 1) text.now)) }
+    ensures none { IfNone result (words_of text.now ≡ text.now ∷ []) }
+    ensures within { IfSome result (λ at. (at < length text.now) × (at + 1 < 2 ^ 64)) }
+{
+    match space_at(text) {
+        Some(at) => Some(at),
+        None => None,
+    }
+}
+
+/// The words of a line, which are parted by one space.
+pub fn words_of<'a>(alloc: Global, line: &'a [u8]) -> Result<Vec<&'a [u8]>, AllocError>
+    ensures { IfOk result (λ words. map (λ word. word.now) words.items ≡ words_of line.now) }
+{
+    let mut words = Vec::new(alloc);
+    let mut rest = line;
+    while let Some(at) = first_space(rest) {
+        words.push(&rest[..at])?;
+        rest = &rest[at + 1..];
+    }
+    words.push(rest)?;
+    Ok(words)
+}
+
+#[tactic(auto, unfolding(crate::specs::Words::is_letter))]
+fn is_letter(b: u8) -> bool
+    ensures { result ≡ is_letter b }
+{
+    (b'A' <= b && b <= b'Z') || (b'a' <= b && b <= b'z')
+}
+
+fn is_digit(b: u8) -> bool
+    ensures { result ≡ is_digit b }
+{
+    b'0' <= b && b <= b'9'
+}
+
+#[tactic(auto, unfolding(crate::specs::Words::is_name_byte))]
+fn is_name_byte(b: u8) -> bool
+    ensures { result ≡ is_name_byte b }
+{
+    is_letter(b) || (is_digit(b) || (b == b'.' || b == b'_'))
+}
+
+fn are_name_bytes(text: &[u8]) -> bool
+    ensures { result ≡ list_all is_name_byte text.now }
+{
+    for b in text {
+        if !is_name_byte(*b) {
+            return false;
+        }
+    }
+    true
+}
+
+/// Whether a text has the form of a name.
+#[tactic(auto, unfolding(crate::specs::Words::is_name))]
+pub fn is_name(text: &[u8]) -> bool
+    ensures { result ≡ is_name text.now }
+{
+    0 < text.len() && (text.len() <= 16 && (is_letter(text[0]) && are_name_bytes(text)))
+}
+
+/// The limit that a text writes.
+#[tactic(auto, unfolding(crate::specs::Words::limit_of))]
+pub fn limit_of(text: &[u8]) -> Option<u32>
+    ensures { result ≡ limit_of text.now }
+{
+    if text.is_empty() || text.len() > 7 || text[0] == b'0' {
+        return None;
+    }
+    let mut value = 0u32;
+    for digit in text {
+        if !is_digit(*digit) {
+            return None;
+        }
+        value = value * 10 + u32::from(*digit - b'0');
+    }
+    if value <= MAX_EVENTS {
+        Some(value)
+    } else {
+        None
+    }
+}
+
+/// The units of the tick that a text writes.
+#[tactic(auto, unfolding(crate::specs::Words::tick_of))]
+pub fn tick_of(text: &[u8]) -> Option<u32>
+    ensures { result ≡ tick_of text.now }
+{
+    if text == b"0.01".as_slice() {
+        Some(2)
+    } else if text == b"0.05".as_slice() {
+        Some(10)
+    } else {
+        None
+    }
+}
+
+/// The moment that a text writes.
+#[tactic(auto, unfolding(crate::specs::Words::moment_of))]
+pub fn moment_of(text: &[u8]) -> Option<i64>
+    ensures { result ≡ moment_of text.now }
+{
+    if text == b"20240102-14:30:00.000".as_slice() {
+        Some(1_704_205_800_000)
+    } else {
+        None
+    }
+}
