@@ -1,5 +1,5 @@
 //! Worked examples: each form at and beyond its edges, and each fault with its place.
-use crate::{Field, FieldFault, LONGEST_CONTENT, amount, fields, moment, number};
+use crate::{Field, FieldFault, LONGEST_FRAME, amount, fields, moment, number};
 use std::alloc::{AllocError, Global};
 use std::process::Abort;
 use std::test::Fail;
@@ -114,7 +114,7 @@ fn outline(alloc: Global, fields: &[Field]) -> Result<String, AllocError> {
 
 /// The fields of bytes that are few enough to be split.
 fn split(rt: &impl Abort, alloc: Global, bytes: &[u8]) -> Result<Vec<Field>, FieldFault> {
-    assert!(rt; bytes.len() <= LONGEST_CONTENT);
+    assert!(rt; bytes.len() <= LONGEST_FRAME);
     fields(alloc, bytes)
 }
 
