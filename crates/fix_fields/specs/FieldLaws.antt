@@ -1,22 +1,23 @@
 -- The split is the one list of fields that spells the bytes.
-use Rattle.std.proofs.Common.{◌≡◌, ℕ, zero, suc, ◌+◌, ◌-◌, ◌<◌, ◌≤◌, Bool, true, false, ◌&&◌, ◌||◌, cond, eqb, List, [], ◌∷◌, ◌++◌, length, take, drop, get_or, Option, Some, None, Result, Ok, Err, ◌⊎◌, inl, inr, refl, sym, ◌∙◌, ap, subst, arith, append_assoc, length-append, length-drop, length-take, eqb→eq}
+use Rattle.std.proofs.Common.{◌≡◌, ℕ, zero, suc, ◌+◌, ◌-◌, ◌<◌, Bool, true, false, ◌&&◌, ◌||◌, cond, eqb, List, [], ◌∷◌, ◌++◌, length, take, drop, get_or, Option, Some, None, Result, Ok, Err, ◌⊎◌, inl, inr, refl, sym, ◌∙◌, ap, subst, arith, append_assoc, length-append, length-drop}
 use Rattle.std.specs.Prelude.{decimal, is_none, IsSome}
 use Rattle.std.specs.Option.{ok_or, option_map}
 use Rattle.std.specs.Fmt.{digits}
-use Rattle.std.specs.List.{position, list_any, flat_map, starts_with}
-use Rattle.std.proofs.lemmas.Bool.{cases_lt}
+use Rattle.std.specs.List.{position, list_any, starts_with}
+use Rattle.std.proofs.lemmas.Bool.{cases_lt, eqb-true, and_parts, or_parts}
+use Rattle.std.proofs.Math.Seq.{take-add}
 use Rattle.std.proofs.lemmas.Bool.Decides.{nat_tests}
-use Rattle.std.proofs.lemmas.List.{take-append-drop, take_at, drop_at, drop_more, get_or_past, length-take-le, drop-drop, append-nil, get_or_at, get_or-append-add}
+use Rattle.std.proofs.lemmas.List.{take-append-drop, take_at, drop_at, drop_more, get_or_past, length-take-le, drop-drop, get_or_at, get_or-append-add}
 use Rattle.std.proofs.lemmas.List.Folds.{list_any-append}
 use lib.Pointwise.{bytes_decides}
 use Rattle.fix_fields.specs.declared.field.Field.{Field}
 use Rattle.fix_fields.specs.declared.field.FieldFault.{FieldFault}
-use Rattle.fix_fields.specs.declared.field.FieldFault.TheVariants.{NoEquals, BadTag, NoEnd, DataShort, NoMemory}
+use Rattle.fix_fields.specs.declared.field.FieldFault.TheVariants.{NoEquals, BadTag, NoEnd, DataShort}
 use Rattle.fix_fields.specs.declared.splitting.Due.{Due}
 use Rattle.fix_fields.specs.Forms.{tag_of, number_of}
 use Rattle.fix_fields.specs.Fields.{◌>>=◌, is_end, is_equals, is_length, data_behind, Cut, data_front, plain_cut, data_cut, cut_at, with_first, split_from, split}
-use Rattle.fix_fields.specs.Marks.{IsFirst, first_of, position-first, or_false}
-use Rattle.fix_fields.specs.Tags.{tag_found, tag_again, tag_no_end, tag_no_equals, and_true}
+use Rattle.fix_fields.specs.Marks.{first_of, position-first}
+use Rattle.fix_fields.specs.Tags.{tag_found, tag_again, tag_no_end, tag_no_equals}
 use Rattle.fix_fields.specs.Spelling.{spelling, spellings, IsPlain, IsData, AreFields}
 
 bind_ok : {A B : Type 0} (r : Result A FieldFault) (f : A → Result B FieldFault) (y : B) → (r >>= f) ≡ Ok y → (x : A) × (r ≡ Ok x) × (f x ≡ Ok y)
@@ -38,7 +39,7 @@ test_ok false e x y h = absurd (cc)
 any_drop : (p : ℕ → Bool) (n : ℕ) (xs : List ℕ) → list_any p xs ≡ false → list_any p (drop n xs) ≡ false
 any_drop p zero xs h = h
 any_drop p (suc n) [] h = refl
-any_drop p (suc n) (x ∷ xs) h = any_drop p n xs (or_false (p x) (list_any p xs) h).1
+any_drop p (suc n) (x ∷ xs) h = any_drop p n xs (or_parts (p x) (list_any p xs) h).1
 
 some_number : (b : Bool) (o : Option ℕ) → (b && is_none o) ≡ false → b ≡ true → IsSome o
 some_number true (Some n) h e = refl
@@ -54,10 +55,7 @@ no_guard false o h = refl
 regroup : (t b d : List ℕ) → (t ++ 61 ∷ (b ++ 1 ∷ [])) ++ d ≡ (t ++ 61 ∷ b) ++ 1 ∷ d
 regroup t b d = append_assoc t (61 ∷ (b ++ 1 ∷ [])) d ∙ ap (λ (x : List ℕ). t ++ 61 ∷ x) (append_assoc b (1 ∷ []) d) ∙ sym (append_assoc t (61 ∷ b) (1 ∷ d))
 
-is_byte : (x k : ℕ) → eqb x k ≡ true → x ≡ k
-is_byte x k h = grind (arith, nat_tests)
-
--- a field that was cut from the front is as it must be, and is spellings there
+-- a field that was cut from the front is as it must be, and is spelled there
 pub record IsCut (IsGood : Field → Type 0) (rest : List ℕ) (cut : Cut) : Type 0 where
   pub good : IsGood cut.field
   pub whole : rest ≡ spelling cut.field ++ drop cut.size rest
@@ -78,8 +76,8 @@ plain_found at rest cut h =
     let p1 = first_of is_end rest end (ok_or_found (position is_end rest) (NoEnd at) end b1.1) in
     let p2 = first_of is_equals line equals (ok_or_found (position is_equals line) (NoEquals at) equals b2.1) in
     let t = tag_found (take equals line) tag (ok_or_found (tag_of (take equals line)) (BadTag at) tag b3.1) in
-    let soh : p1.mark ≡ 1 = is_byte p1.mark 1 p1.passes in
-    let sign : p2.mark ≡ 61 = is_byte p2.mark 61 p2.passes in
+    let soh : p1.mark ≡ 1 = eqb-true p1.mark 1 p1.passes in
+    let sign : p2.mark ≡ 61 = eqb-true p2.mark 61 p2.passes in
     let front : line ≡ decimal tag ++ 61 ∷ bytes = p2.whole ∙ ap (λ (x : ℕ). take equals line ++ x ∷ p2.rest) sign ∙ ap (λ (x : List ℕ). take equals line ++ 61 ∷ x) p2.behind ∙ ap (λ (x : List ℕ). x ++ 61 ∷ bytes) (sym t.0) in
     let all : rest ≡ (decimal tag ++ 61 ∷ bytes) ++ 1 ∷ drop (end + 1) rest = p1.whole ∙ ap (λ (x : ℕ). line ++ x ∷ p1.rest) soh ∙ ap (λ (x : List ℕ). line ++ 1 ∷ x) p1.behind ∙ ap (λ (x : List ℕ). x ++ 1 ∷ drop (end + 1) rest) front in
     let found : IsCut IsPlain rest made = record {
@@ -106,15 +104,6 @@ at_mark xs n h =
     let l : n < length xs = elim (cases_lt n (length xs)) [ inl a ↦ a | inr b ↦ absurd (let z : get_or xs n 0 ≡ 0 = get_or_past xs n 0 b in omega arith) ] in
     (l, sym (take-append-drop n xs) ∙ ap (λ (x : List ℕ). take n xs ++ x) (drop_more xs n 0 l ∙ ap (λ (x : ℕ). x ∷ drop (n + 1) xs) h))
 
-take_nil : (m : ℕ) → take {A = ℕ} m [] ≡ []
-take_nil zero = refl
-take_nil (suc m) = refl
-
-take_two : (n m : ℕ) (xs : List ℕ) → take (n + m) xs ≡ take n xs ++ take m (drop n xs)
-take_two zero m xs = let e : 0 + m ≡ m = omega arith in ap (λ (k : ℕ). take k xs) e
-take_two (suc n) m [] = let e : suc n + m ≡ suc (n + m) = omega arith in ap (λ (k : ℕ). take {A = ℕ} k []) e ∙ sym (take_nil m)
-take_two (suc n) m (x ∷ xs) = let e : suc n + m ≡ suc (n + m) = omega arith in ap (λ (k : ℕ). take k (x ∷ xs)) e ∙ ap (λ (ys : List ℕ). x ∷ ys) (take_two n m xs)
-
 data_found : (at : ℕ) (due : Due) (rest : List ℕ) (cut : Cut) → HasTag due → data_cut at due rest ≡ Ok cut → IsCut (IsData due) rest cut
 unfolding data_cut
 data_found at due rest cut tag h =
@@ -123,9 +112,9 @@ data_found at due rest cut tag h =
     let bytes = take due.size (drop (length front) rest) in
     let made : Cut = record { field = record { tag = due.tag; bytes = bytes }; size = many + 1 } in
     let g = test_ok (starts_with eqb rest front && eqb (get_or rest many 0) 1) (DataShort at) made cut h in
-    let f = and_true (starts_with eqb rest front) (eqb (get_or rest many 0) 1) g.0 in
-    let m = at_mark rest many (is_byte _ 1 f.1) in
-    let two : take many rest ≡ decimal due.tag ++ 61 ∷ bytes = take_two (length front) due.size rest ∙ ap (λ (x : List ℕ). x ++ bytes) (front_of front rest f.0 ∙ front_is due tag) ∙ append_assoc (decimal due.tag) (61 ∷ []) bytes in
+    let f = and_parts (starts_with eqb rest front) (eqb (get_or rest many 0) 1) g.0 in
+    let m = at_mark rest many (eqb-true _ 1 f.1) in
+    let two : take many rest ≡ decimal due.tag ++ 61 ∷ bytes = take-add (length front) due.size rest ∙ ap (λ (x : List ℕ). x ++ bytes) (front_of front rest f.0 ∙ front_is due tag) ∙ append_assoc (decimal due.tag) (61 ∷ []) bytes in
     let found : IsCut (IsData due) rest made = record {
       good = record { tag = refl; size = length-take-le due.size (drop (length front) rest) (omega (arith, m.0, length-drop (length front) rest)) };
       whole = m.1 ∙ ap (λ (x : List ℕ). x ++ 1 ∷ drop (many + 1) rest) two ∙ sym (regroup (decimal due.tag) bytes (drop (many + 1) rest));
@@ -149,9 +138,9 @@ data_behind-tags : (tag : ℕ) (bytes : List ℕ) → HasTags (data_behind tag b
 unfolding data_behind
 data_behind-tags tag bytes =
     elim (eqb tag 95) as (λ b. (eqb tag 95 ≡ b) → HasTags (cond (b || eqb tag 354) (option_map (λ size. record { tag = tag + 1; size = size }) (number_of bytes)) None)) [
-      | true ↦ λ e. elim (number_of bytes) as (λ o. HasTags (option_map (λ size. record { tag = tag + 1; size = size }) o)) [ None ↦ tt | Some n ↦ inl (omega (arith, is_byte tag 95 e)) ]
+      | true ↦ λ e. elim (number_of bytes) as (λ o. HasTags (option_map (λ size. record { tag = tag + 1; size = size }) o)) [ None ↦ tt | Some n ↦ inl (omega (arith, eqb-true tag 95 e)) ]
       | false ↦ λ _. elim (eqb tag 354) as (λ b. (eqb tag 354 ≡ b) → HasTags (cond b (option_map (λ size. record { tag = tag + 1; size = size }) (number_of bytes)) None)) [
-        | true ↦ λ e. elim (number_of bytes) as (λ o. HasTags (option_map (λ size. record { tag = tag + 1; size = size }) o)) [ None ↦ tt | Some n ↦ inr (omega (arith, is_byte tag 354 e)) ]
+        | true ↦ λ e. elim (number_of bytes) as (λ o. HasTags (option_map (λ size. record { tag = tag + 1; size = size }) o)) [ None ↦ tt | Some n ↦ inr (omega (arith, eqb-true tag 354 e)) ]
         | false ↦ λ _. tt
       ] refl
     ] refl

@@ -1,7 +1,7 @@
 -- The fields of a message.
-use Rattle.std.specs.Prelude.{◌≡◌, ℕ, zero, suc, ◌+◌, ◌-◌, nat_lt, nat_eq, ◌==◌, Bool, ◌&&◌, ◌||◌, if◌then◌else◌, List, [], ◌∷◌, ◌++◌, length, take, drop, slice_index, codes, Option, Some, None, is_some, is_none, option_map, Result, Ok, Err}
+use Rattle.std.specs.Prelude.{◌≡◌, ℕ, zero, suc, ◌+◌, ◌-◌, nat_eq, ◌==◌, Bool, ◌&&◌, ◌||◌, if◌then◌else◌, List, [], ◌∷◌, ◌++◌, length, take, drop, slice_index, codes, Option, Some, None, is_none, option_map, Result, Ok, Err}
 use Rattle.std.specs.List.{position, starts_with}
-use Rattle.std.specs.Option.{option_and_then, ok_or}
+use Rattle.std.specs.Option.{ok_or}
 use Rattle.std.specs.declared.vec.Vec.{Vec}
 use Rattle.std.specs.declared.alloc.Global.{Global}
 use Rattle.fix_fields.specs.declared.field.Field.{Field}
@@ -28,7 +28,8 @@ is_length tag = (tag == 95) || (tag == 354)
 
 -- the data that must follow a field: that of 95 in 96, that of 354 in 355
 unfoldable pub data_behind : ℕ → List ℕ → Option Due
-data_behind tag bytes = if is_length tag then option_map (λ size. record { tag = tag + 1; size = size }) (number_of bytes) else None
+data_behind tag bytes =
+    if is_length tag then option_map (λ size. record { tag = tag + 1; size = size }) (number_of bytes) else None
 
 -- a field at the front of bytes, and how many of them it takes
 pub record Cut : Type 0 where
@@ -50,12 +51,15 @@ plain_cut at rest =
     if is_length tag && is_none (number_of bytes) then Err (DataShort at)
     else Ok (record { field = record { tag = tag; bytes = bytes }; size = end + 1 })
 
--- a field of data, whose value has the length that was data_behind
+-- a field of data, whose value has the length that was given
 unfoldable pub data_cut : ℕ → Due → List ℕ → Result Cut FieldFault
 data_cut at due rest =
     let front = data_front due.tag in
     if starts_with nat_eq rest front && (slice_index rest (length front + due.size) == 1)
-    then Ok (record { field = record { tag = due.tag; bytes = take due.size (drop (length front) rest) }; size = length front + due.size + 1 })
+    then Ok (record {
+      field = record { tag = due.tag; bytes = take due.size (drop (length front) rest) };
+      size = length front + due.size + 1;
+    })
     else Err (DataShort at)
 
 -- the next field
@@ -71,7 +75,8 @@ with_first field rest = rest >>= λ fields. Ok (field ∷ fields)
 abbrev pub with_front : List Field → Result (List Field) FieldFault → Result (List Field) FieldFault
 with_front front rest = rest >>= λ fields. Ok (front ++ fields)
 
--- the fields of the rest of so many bytes; the first number only bounds the recursion, and is above the number of bytes left
+-- the fields of the rest of so many bytes; the first number only bounds the recursion, and is above the number of bytes left,
+-- so that its end at zero is never reached
 abbrev pub split_from : ℕ → ℕ → Option Due → List ℕ → Result (List Field) FieldFault
 split_from zero total due rest = Err NoMemory
 split_from (suc fuel) total None [] = Ok []

@@ -1,5 +1,5 @@
 -- The forms of the values of fields.
-use Rattle.std.specs.Prelude.{ℕ, ◌+◌, ◌-◌, ◌*◌, ◌^◌, nat_le, nat_lt, ◌==◌, Bool, ◌&&◌, ◌||◌, not, if◌then◌else◌, List, [], ◌∷◌, length, take, drop, slice_index, Option, Some, None, option_map, ℤ, pos, neg_ℤ, ◌+ℤ◌, ◌*ℤ◌}
+use Rattle.std.specs.Prelude.{ℕ, ◌+◌, ◌-◌, ◌*◌, ◌^◌, nat_le, nat_lt, ◌==◌, Bool, ◌&&◌, ◌||◌, not, if◌then◌else◌, List, length, take, drop, slice_index, Option, Some, None, option_map, ℤ, pos, neg_ℤ, ◌+ℤ◌, ◌*ℤ◌}
 use Rattle.std.specs.List.{list_all, before_first, after_first}
 use Rattle.std.specs.Char.{is_ascii_digit}
 use Rattle.std.specs.Str.Parse.{digits_value}
@@ -32,12 +32,15 @@ unsigned_amount bytes =
     let whole = before_first is_point bytes in
     let fraction = after_first is_point bytes in
     if nat_lt 18 (length whole) || (nat_lt 8 (length fraction) || (length whole + length fraction == 0)) then None
-    else option_and_then (λ units. option_map (λ parts. units * 10 ^ 8 + parts * 10 ^ (8 - length fraction)) (numeral fraction)) (numeral whole)
+    else option_and_then (λ units. option_map (λ parts.
+    units * 10 ^ 8 + parts * 10 ^ (8 - length fraction))
+    (numeral fraction)) (numeral whole)
 
 -- an amount, which may be negative
 unfoldable pub amount_of : List ℕ → Option ℤ
 amount_of bytes =
-    option_map (λ units. if slice_index bytes 0 == 45 then neg_ℤ (pos units) else pos units) (unsigned_amount (unsigned_part bytes))
+    option_map (λ units. if slice_index bytes 0 == 45 then neg_ℤ (pos units) else pos units)
+    (unsigned_amount (unsigned_part bytes))
 
 -- whether the calendar has the date
 abbrev pub is_date : ℕ → ℕ → ℕ → Bool

@@ -1,4 +1,4 @@
--- Which lists of fields there are, and how they are spellings.
+-- Which lists of fields there are, and how they are spelled.
 use Rattle.std.specs.Prelude.{◌≡◌, ℕ, ◌<◌, true, false, List, [], ◌∷◌, ◌++◌, length, decimal, Option, Some, None, IsSome}
 use Rattle.std.specs.List.{list_any, flat_map}
 use Rattle.fix_fields.specs.declared.field.Field.{Field}
@@ -10,7 +10,7 @@ use Rattle.fix_fields.specs.Fields.{is_end, is_length, data_behind}
 abbrev pub spelling : Field → List ℕ
 spelling field = decimal field.tag ++ 61 ∷ (field.bytes ++ 1 ∷ [])
 
--- the spellings of fields, joined
+-- the spellings of fields, one behind the other
 abbrev pub spellings : List Field → List ℕ
 spellings fields = flat_map spelling fields
 

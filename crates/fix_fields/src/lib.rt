@@ -6,9 +6,9 @@ pub mod forms;
 pub mod moments;
 pub mod splitting;
 
-pub use field::{Field, FieldFault, LONGEST_CONTENT};
+pub use field::{Field, FieldFault, LONGEST_FRAME};
 pub use forms::{amount, number};
-pub use moments::moment;
+pub use moments::{FIRST_MOMENT, LAST_MOMENT, moment};
 pub use splitting::fields;
 
 #[cfg(test)]

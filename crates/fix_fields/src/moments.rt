@@ -5,13 +5,18 @@ ghost use Rattle.fix_fields.specs.Forms.{civil_day, day_number, second_of_day, m
 use crate::forms::numeral;
 use jiff::civil::Date;
 
+/// The first millisecond of the year 0000 and the last of the year 9999, counted from 1970-01-01 00:00 UTC.
+pub const FIRST_MOMENT: i64 = -62_167_219_200_000;
+
+pub const LAST_MOMENT: i64 = 253_402_300_799_999;
+
 /// The day number of a date of the years 0 to 9999, counted from 1970-01-01, where the calendar has that date.
 fn civil_day(year: u64, month: u64, day: u64) -> Option<i64>
     requires year { year < 10000 }
     requires month { month < 100 }
     requires day { day < 100 }
     ensures value { result ≡ civil_day year month day }
-    ensures bound { IfSome result (λ number. (neg_ℤ (pos 4_371_587) ≤ℤ number) × (number ≤ℤ pos 2_932_896)) }
+    ensures bound { IfSome result (λ number. (neg_ℤ (pos 719_528) ≤ℤ number) × (number ≤ℤ pos 2_932_896)) }
 {
     match Date::new(year as i16, month as i8, day as i8) {
         Ok(date) => Some(date.to_plain().to_unix_epoch_day() as i64),
@@ -24,7 +29,7 @@ fn civil_day(year: u64, month: u64, day: u64) -> Option<i64>
 fn day_number(text: &[u8]) -> Option<i64>
     requires { length text.now ≡ 8 }
     ensures value { result ≡ day_number text.now }
-    ensures bound { IfSome result (λ day. (neg_ℤ (pos 4_371_587) ≤ℤ day) × (day ≤ℤ pos 2_932_896)) }
+    ensures bound { IfSome result (λ day. (neg_ℤ (pos 719_528) ≤ℤ day) × (day ≤ℤ pos 2_932_896)) }
 {
     let year = numeral(&text[..4])?;
     let month = numeral(&text[4..6])?;
@@ -73,7 +78,8 @@ fn milliseconds(text: &[u8]) -> Option<u32>
 /// the years 0000 to 9999, and what is behind the millisecond is dropped. Other bytes give `None`.
 #[tactic(auto, unfolding(crate::specs::Forms::moment_of))]
 pub fn moment(bytes: &[u8]) -> Option<i64>
-    ensures { result ≡ moment_of bytes.now }
+    ensures value { result ≡ moment_of bytes.now }
+    ensures within { IfSome result (λ moment. (FIRST_MOMENT ≤ℤ moment) × (moment ≤ℤ LAST_MOMENT)) }
 {
     if bytes.len() < 17 || bytes[8] != b'-' {
         return None;

@@ -1,4 +1,4 @@
-use Rattle.std.proofs.Common.{◌≡◌, ℕ, ◌+◌, ◌-◌, ◌*◌, ◌<◌, ◌≤◌, length, get_or, arith, ◌∙◌, sym}
+use Rattle.std.proofs.Common.{◌-◌, length, get_or, arith, ◌∙◌, sym}
 use Rattle.fix_fields.proofs.Numerals.{digit_room, digits_value_next, digits_next, room_next}
 use Rattle.fix_fields.proofs.forms.numeral.Goals as goal
 
