@@ -1,2 +1,0 @@
-pub mod CivilDates
-pub mod LengthSteps

@@ -1,5 +1,0 @@
-pub mod Digits
-pub mod Fields
-pub mod Framing
-pub mod Lengths
-pub mod Moments
