@@ -1,0 +1,5 @@
+pub mod Digits
+pub mod Fields
+pub mod Framing
+pub mod Lengths
+pub mod Moments
