@@ -1,0 +1,1 @@
+//! The last change below a limit, on examples and beside a plain list of all moves.
