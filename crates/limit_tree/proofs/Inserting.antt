@@ -1,11 +1,15 @@
 -- A row that enters among rows in order.
-use Rattle.std.proofs.Common.{◌≡◌, ◌≢◌, ℕ, ◌+◌, ◌*◌, ◌^◌, ◌<◌, ◌≤◌, Bool, true, false, cond, ltb, List, [], ◌∷◌, ◌++◌, length, refl, ap, sym, ◌∙◌, subst, arith, length-append}
-use Rattle.std.proofs.lemmas.Bool.{ltb-true, ltb-false, lt-ltb, le-ltb}
+use Rattle.std.proofs.Common.{◌≡◌, ◌≢◌, ℕ, ◌+◌, ◌*◌, ◌^◌, ◌<◌, ◌≤◌, Bool, true, false, cond, ltb, eqb, ◌&&◌, ◌||◌, List, [], ◌∷◌, ◌++◌, length, refl, ap, sym, ◌∙◌, subst, arith, length-append}
+use Rattle.std.proofs.lemmas.Bool.{ltb-true, ltb-false, lt-ltb, le-ltb, eq-eqb}
 use Rattle.std.specs.List.{AllByRecursion}
 use Rattle.venue_words.specs.ListLaws.{all_weaken}
 use Rattle.venue_words.specs.declared.row.Row.{Row}
-use Rattle.limit_tree.specs.Order.{rank, row_rank, IsOrdered, IsNumbered, IsFree, insert_row}
+use Rattle.limit_tree.specs.Order.{rank, row_rank, IsOrdered, IsNumbered, IsFree, insert_row, is_held}
 use Rattle.limit_tree.proofs.InOrder.{all_front, all_back}
+
+or_second : (a b : Bool) → (a || b) ≡ false → b ≡ false
+or_second true b h = cc
+or_second false b h = h
 
 -- two tests that mean the same
 pub ltb-same : (a b c d : ℕ) → (a < b → c < d) → (b ≤ a → d ≤ c) → ltb a b ≡ ltb c d
@@ -93,3 +97,9 @@ insert_to_right {rows} {front} {back} {row} x s h = rw s.is (insert_right x fron
 
 pub ordered_after : {rows front back : List Row} {row : Row} (x : Row) → IsNumbered x → IsSplit rows front row back → IsFree x.cap x.entry rows → IsOrdered (insert_row x rows)
 ordered_after {rows} x n s f = ordered_insert x rows n f (rw s.is s.ordered)
+
+-- a pair that is not held is free
+pub free_if_not_held : (cap entry : ℕ) (rows : List Row) → is_held cap entry rows ≡ false → IsFree cap entry rows
+free_if_not_held cap entry [] h = tt
+free_if_not_held cap entry (row ∷ rows) h =
+    ((λ e k. let t : (eqb row.cap cap && eqb row.entry entry || is_held cap entry rows) ≡ true = rw (eq-eqb row.cap cap e, eq-eqb row.entry entry k) refl in cc), free_if_not_held cap entry rows (or_second _ _ h))

@@ -1,5 +1,5 @@
 //! One more row in a part of the tree.
-ghost use Rattle.std.specs.Prelude.{◌≡◌, ◌+◌, ◌≤◌, nat_lt};
+ghost use Rattle.std.specs.Prelude.{◌*◌, ◌<◌, ◌≡◌, ◌+◌, ◌≤◌, nat_lt};
 ghost use Rattle.limit_tree.specs.Link.{link_rows, link_height};
 ghost use Rattle.limit_tree.specs.Order.{row_rank, IsNumbered, IsFree, insert_row};
 ghost use Rattle.limit_tree.specs.Part.{IsLeaf};
@@ -34,6 +34,9 @@ pub fn put_into<L: Ledger>(
     ensures at_most_one_higher { result.value.height ≤ link_height link + 1 }
     ensures ticks { steps.old + 1 ≤ steps.new }
     ensures most { steps.new ≤ steps.old + link_height link + 1 }
+
+    // Each node on the way down is a step, and no way down is shorter than half the height.
+    ensures each { 2 * steps.old + link_height link < 2 * steps.new }
 {
     steps.tick();
     match link {

@@ -1,5 +1,5 @@
 //! The rows of one group of orders.
-ghost use Rattle.std.specs.Prelude.{◌≡◌, ◌+◌, ◌<◌, ◌≤◌, [], IfSome, option_map};
+ghost use Rattle.std.specs.Prelude.{false, ◌≡◌, ◌+◌, ◌<◌, ◌≤◌, [], IfSome, option_map};
 ghost use Rattle.limit_tree.specs.Looks.{FindsLeast, FindsGreatestBelow};
 ghost use Rattle.limit_tree.specs.Order.{is_empty, IsFree, insert_row, without_row, row_at, is_held};
 ghost use Rattle.limit_tree.specs.Part.{IsLeaf};
@@ -53,7 +53,7 @@ impl LimitTree {
     /// Enters a row.
     pub fn put<L: Ledger>(&mut self, node: Box<Node>, steps: &mut Steps<L>)
         requires alone { IsLeaf node.value }
-        requires free { IsFree node.value.row.cap node.value.row.entry self.old }
+        requires free { is_held node.value.row.cap node.value.row.entry self.old ≡ false }
         ensures rows { self.new ≡ insert_row node.value.row self.old }
         ensures ticks { steps.old + 1 ≤ steps.new }
         ensures most { steps.new ≤ steps.old + 256 }
