@@ -1,0 +1,124 @@
+//! A node of the tree, and how nodes are taken apart and put together.
+ghost use Rattle.std.specs.Prelude.{◌≡◌, ◌-◌, ◌+◌, ◌<◌, ◌≤◌, [], ◌∷◌, ◌++◌, length, max, true};
+ghost use Rattle.limit_tree.specs.Link.{link_rows, link_height};
+ghost use Rattle.limit_tree.specs.Order.{IsOrdered, least_entry};
+ghost use Rattle.limit_tree.specs.Part.{IsLeaf, DifferByAtMost, fewest};
+
+use std::marker::Model;
+use venue_words::Row;
+
+/// A row of the tree, with the part of the tree below it.
+#[derive(Drop)]
+pub struct Node {
+    pub cap: u32,
+    pub entry: u32,
+    pub row: Row,
+    pub least: u32,
+    pub height: u32,
+    pub left: Option<Box<Node>>,
+    pub right: Option<Box<Node>>,
+}
+
+impl Model for Node {
+    ghost use Rattle.limit_tree.specs.Part.{Part};
+
+    ghost Value = { Part };
+
+    ghost use Rattle.limit_tree.specs.View.{part_of, IsPart};
+    ghost use Rattle.std.specs.Prelude.{length};
+
+    ghost view = { part_of };
+
+    ghost invariant = { IsPart };
+
+    ghost size = { λ p. length p.rows };
+
+    ghost use Rattle.std.proofs.Common.{arith, length-append};
+
+    ghost size_decreases = { λ a h. Prim.grind (arith, length-append) };
+}
+
+/// The row as a node without children.
+pub fn leaf(row: Row) -> Node
+    ensures row { result.row ≡ row }
+    ensures rows { result.rows ≡ row ∷ [] }
+{
+    Node {
+        cap: row.cap,
+        entry: row.entry,
+        row,
+        least: row.entry,
+        height: 1,
+        left: None,
+        right: None,
+    }
+}
+
+/// Shares of the node's row are traded.
+pub fn fill(node: &mut Node, quantity: u32)
+    requires alone { IsLeaf node.old }
+    requires within { quantity ≤ node.old.row.leaves }
+    ensures row { node.new.row ≡ record node.old.row { leaves = node.old.row.leaves - quantity; traded = true } }
+    ensures alone { IsLeaf node.new }
+{
+    node.row.leaves -= quantity;
+    node.row.traded = true;
+}
+
+/// The height behind a link.
+pub fn height_of(link: &Option<Box<Node>>) -> u32
+    ensures height { result ≡ link_height link.now }
+    ensures full { fewest result ≤ length (link_rows link.now) + 1 }
+    ensures small { result < 92 }
+{
+    match link {
+        None => 0,
+        Some(node) => node.height,
+    }
+}
+
+/// The least entry behind a link.
+pub fn least_of(link: &Option<Box<Node>>) -> u32
+    ensures { result ≡ least_entry (link_rows link.now) }
+{
+    match link {
+        None => u32::MAX,
+        Some(node) => node.least,
+    }
+}
+
+/// The links of a node, and the node without children.
+pub fn parts(mut node: Box<Node>) -> (Option<Box<Node>>, Box<Node>, Option<Box<Node>>)
+    ensures rows { node.value.rows ≡ link_rows result.0 ++ node.value.row ∷ link_rows result.2 }
+    ensures row { result.1.value.row ≡ node.value.row }
+    ensures alone { IsLeaf result.1.value }
+    ensures height { node.value.height ≡ max (link_height result.0) (link_height result.2) + 1 }
+    ensures balanced { DifferByAtMost 1 (link_height result.0) (link_height result.2) }
+    ensures ordered { IsOrdered node.value.rows }
+{
+    let top: &mut Node = &mut node;
+    let left = top.left.take();
+    let right = top.right.take();
+    top.least = top.entry;
+    top.height = 1;
+    (left, node, right)
+}
+
+/// The node with parts on both sides.
+pub fn attach(left: Option<Box<Node>>, mut node: Box<Node>, right: Option<Box<Node>>) -> Box<Node>
+    requires alone { IsLeaf node.value }
+    requires ordered { IsOrdered (link_rows left ++ node.value.row ∷ link_rows right) }
+    requires balanced { DifferByAtMost 1 (link_height left) (link_height right) }
+    ensures rows { result.value.rows ≡ link_rows left ++ node.value.row ∷ link_rows right }
+    ensures row { result.value.row ≡ node.value.row }
+    ensures height { result.value.height ≡ max (link_height left) (link_height right) + 1 }
+{
+    let height = height_of(&left).max(height_of(&right)) + 1;
+    let least = least_of(&left).min(least_of(&right));
+    let top: &mut Node = &mut node;
+    top.least = top.entry.min(least);
+    top.height = height;
+    top.left = left;
+    top.right = right;
+    node
+}

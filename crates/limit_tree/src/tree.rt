@@ -1,0 +1,132 @@
+//! The rows of one group of orders.
+ghost use Rattle.std.specs.Prelude.{false, ◌≡◌, ◌+◌, ◌<◌, ◌≤◌, [], IfSome, option_map};
+ghost use Rattle.limit_tree.specs.Looks.{FindsLeast, FindsGreatestBelow};
+ghost use Rattle.limit_tree.specs.Order.{is_empty, IsFree, insert_row, without_row, row_at, is_held};
+ghost use Rattle.limit_tree.specs.Part.{IsLeaf};
+
+use crate::insert::put_into;
+use crate::node::{Node, height_of};
+use crate::remove::cut_from;
+use crate::search::{cap_above, first_in, greatest_cap, is_in, least_above};
+use std::marker::Model;
+use std::sync::ledger::Ledger;
+use venue_words::Steps;
+
+/// Rows in a tree, seen as their list in order of cap and entry.
+#[derive(Drop)]
+pub struct LimitTree {
+    root: Option<Box<Node>>,
+}
+
+impl Model for LimitTree {
+    ghost use Rattle.std.specs.Prelude.{List};
+    ghost use Rattle.venue_words.specs.declared.row.Row.{Row};
+    ghost use Rattle.limit_tree.specs.Link.{link_rows};
+
+    ghost Value = { List Row };
+
+    ghost view = { λ t. link_rows t.root };
+}
+
+impl LimitTree {
+    /// A tree without rows.
+    pub fn new() -> LimitTree
+        ensures { result ≡ [] }
+    {
+        LimitTree { root: None }
+    }
+
+    /// Whether there is no row.
+    pub fn is_empty(&self) -> bool
+        ensures { result ≡ is_empty self.now }
+    {
+        match &self.root {
+            None => true,
+            Some(node) => {
+                let top: &Node = node;
+                let _height = top.height;
+                false
+            }
+        }
+    }
+
+    /// Enters a row.
+    pub fn put<L: Ledger>(&mut self, node: Box<Node>, steps: &mut Steps<L>)
+        requires alone { IsLeaf node.value }
+        requires free { is_held node.value.row.cap node.value.row.entry self.old ≡ false }
+        ensures rows { self.new ≡ insert_row node.value.row self.old }
+        ensures ticks { steps.old + 1 ≤ steps.new }
+        ensures most { steps.new ≤ steps.old + 256 }
+    {
+        let root = self.root.take();
+        let _height = height_of(&root);
+        let _row = node.cap;
+        self.root = Some(put_into(root, node, steps));
+    }
+
+    /// Takes the row of a pair out.
+    pub fn cut<L: Ledger>(
+        &mut self,
+        cap: u32,
+        entry: u32,
+        steps: &mut Steps<L>,
+    ) -> Option<Box<Node>>
+        ensures rows { self.new ≡ without_row cap entry self.old }
+        ensures found { option_map (λ node. node.value.row) result ≡ row_at cap entry self.old }
+        ensures alone { IfSome result (λ node. IsLeaf node.value) }
+        ensures ticks { steps.old + 1 ≤ steps.new }
+        ensures most { steps.new ≤ steps.old + 256 }
+    {
+        let root = self.root.take();
+        let _height = height_of(&root);
+        let (rest, found) = cut_from(root, cap, entry, steps);
+        self.root = rest;
+        found
+    }
+
+    /// Whether a pair is held.
+    pub fn holds<L: Ledger>(&self, cap: u32, entry: u32, steps: &mut Steps<L>) -> bool
+        ensures held { result ≡ is_held cap entry self.now }
+        ensures ticks { steps.old + 1 ≤ steps.new }
+        ensures most { steps.new ≤ steps.old + 256 }
+    {
+        let _height = height_of(&self.root);
+        is_in(&self.root, cap, entry, steps)
+    }
+
+    /// The pair of least entry among the caps equal to the value.
+    pub fn first_at<L: Ledger>(&self, value: u32, steps: &mut Steps<L>) -> Option<(u32, u32)>
+        ensures found { FindsLeast (λ cap. cap ≡ value) self.now result }
+        ensures ticks { steps.old + 1 ≤ steps.new }
+        ensures most { steps.new ≤ steps.old + 256 }
+    {
+        let _height = height_of(&self.root);
+        first_in(&self.root, value, steps)
+    }
+
+    /// The pair of least entry among the caps above the value.
+    pub fn first_above<L: Ledger>(&self, value: u32, steps: &mut Steps<L>) -> Option<(u32, u32)>
+        ensures found { FindsLeast (λ cap. value < cap) self.now result }
+        ensures ticks { steps.old + 1 ≤ steps.new }
+        ensures most { steps.new ≤ steps.old + 256 }
+    {
+        let _height = height_of(&self.root);
+        match least_above(&self.root, value, steps) {
+            None => None,
+            Some(entry) => Some((cap_above(&self.root, value, entry, steps), entry)),
+        }
+    }
+
+    /// The pair of the greatest cap below the value, and of the least entry there.
+    pub fn highest_below<L: Ledger>(&self, value: u32, steps: &mut Steps<L>) -> Option<(u32, u32)>
+        ensures found { FindsGreatestBelow value self.now result }
+        ensures ticks { steps.old + 1 ≤ steps.new }
+        ensures most { steps.new ≤ steps.old + 256 }
+    {
+        let _height = height_of(&self.root);
+        match greatest_cap(&self.root, value, steps) {
+            None => None,
+            Some(cap) => first_in(&self.root, cap, steps),
+        }
+    }
+}

@@ -1,0 +1,3 @@
+-- Lemmas on moves.
+pub mod Halving
+pub mod LastBelow
