@@ -31,3 +31,6 @@ pub use rules::verdict;
 pub use terms::{is_immediate, is_pegged, key_of, limit_of, quantity_of, row_of, side_of};
 pub use trade::{Fill, Party, Take};
 pub use walking::{floor, may_fill};
+
+#[cfg(test)]
+mod tests;
