@@ -1,0 +1,16 @@
+pub mod Changing
+pub mod Entering
+pub mod Floor
+pub mod Interleaving
+pub mod Matching
+pub mod Orders
+pub mod Quoting
+pub mod Recheck
+pub mod Showing
+pub mod State
+pub mod Step
+pub mod Terms
+pub mod Trades
+pub mod Verdict
+pub mod Walk
+pub mod Work
