@@ -1,0 +1,9 @@
+pub mod Prefixes
+pub mod Sums
+pub mod Merges
+pub mod OneSeat
+pub mod Moves
+pub mod TurnSteps
+pub mod SeatSteps
+pub mod Ends
+pub mod AtRest
