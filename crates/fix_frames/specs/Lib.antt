@@ -1,0 +1,9 @@
+pub mod PlaceLaws
+pub mod Places
+pub mod Reading
+pub mod ReadingLaws
+pub mod RunLaws
+pub mod Runs
+pub mod Search
+pub mod StreamLaws
+pub mod Streams
