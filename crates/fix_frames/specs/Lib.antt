@@ -7,3 +7,4 @@ pub mod Runs
 pub mod Search
 pub mod StreamLaws
 pub mod Streams
+pub mod Taking

@@ -31,7 +31,7 @@ lies_at (Whole size) bytes rest n frame e further h =
     let long : length frame ≡ size = ap length (sym same) ∙ length-take-le size bytes fits in
     record { some = omega arith; inside = omega arith }
 
-lies_in : (bytes : List ℕ) (n : ℕ) (frame : List ℕ) → next_from bytes ≡ gives n frame → LiesIn bytes n frame
+pub lies_in : (bytes : List ℕ) (n : ℕ) (frame : List ℕ) → next_from bytes ≡ gives n frame → LiesIn bytes n frame
 lies_in [] n frame h = absurd (cc)
 lies_in (b ∷ bs) n frame h =
     lies_at (place_at (b ∷ bs)) (b ∷ bs) (next_from bs) n frame refl (λ k e c. let more = lies_in bs k frame e in record { some = more.some; inside = omega (arith, more.inside) }) h

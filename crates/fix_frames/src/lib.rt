@@ -7,4 +7,4 @@ pub mod reading;
 
 pub use fix_fields::LONGEST_FRAME;
 pub use framer::{Framer, Next};
-pub use reading::Reading;
+pub use reading::{Reading, read_frames};
