@@ -1,3 +1,5 @@
+pub mod FramedLaws
+pub mod MomentLaws
 pub mod PlaceLaws
 pub mod Places
 pub mod Reading

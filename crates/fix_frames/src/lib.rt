@@ -2,6 +2,7 @@
 #![tactic(auto)]
 
 pub mod framer;
+pub mod laws;
 pub mod place;
 pub mod reading;
 
