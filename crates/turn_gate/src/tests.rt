@@ -14,7 +14,7 @@ use std::sync::Wait;
 use std::sync::ledger::{Blank, Ledger};
 use std::test::Fail;
 use std::thread::{Threads, join, map_vec};
-use venue_words::{Command, Event, Steps};
+use venue_words::{Command, Event, FloorRefusal, Look, NoMemory, Steps};
 
 // A seat, and the feed whose commands go through it.
 #[derive(Drop)]
@@ -210,5 +210,57 @@ fn four_seats_stand_in_one_journal(rt: HostRuntime) -> Result<(), Fail> {
 #[test]
 fn sixty_four_seats_get_on(rt: HostRuntime) -> Result<(), Fail> {
     submits_from(&rt, rt.alloc(), 63, 50)?;
+    Ok(())
+}
+
+// What three submits and a look answered.
+struct Answers {
+    submits: [Result<u32, FloorRefusal>; 3],
+    look: Result<Look, NoMemory>,
+}
+
+// Submits three commands, of two feeds, and looks at the second report and those behind it.
+fn submit_and_look<R: Wait, L: Ledger>(
+    rt: &R,
+    gate: &Gate<Journal>,
+    seat: &mut Seat,
+    blank: Blank,
+) -> Answers
+    requires gate { seat.old.gate ≡ gate.now }
+    requires blank { (blank.name ≡ L.name) × (blank.parts ≡ L.parts) × (L.parts ≡ 1) }
+{
+    let mut steps: Steps<L> = Steps::start(blank);
+    let first = gate.submit(rt, seat, 1, 7, command(0), &mut steps);
+    let second = gate.submit(rt, seat, 2, 8, command(0), &mut steps);
+    let third = gate.submit(rt, seat, 1, 9, command(1), &mut steps);
+    Answers {
+        submits: [first, second, third],
+        look: gate.look(rt, seat, 2, 1),
+    }
+}
+
+fn answers_of<R: Wait>(rt: &R, gate: &Gate<Journal>, seat: &mut Seat) -> Answers
+    requires { seat.old.gate ≡ gate.now }
+{
+    submit_and_look::<R, Brand>(rt, gate, seat, Blank::new(1))
+}
+
+#[test]
+fn a_full_journal_refuses_and_still_shows_its_reports(rt: HostRuntime) -> Result<(), Fail> {
+    let Ok((gate, mut seat)) = Gate::make(rt.alloc(), Journal::new(rt.alloc(), 2)) else {
+        return Err(AllocError.into());
+    };
+    let Answers { submits, look } = answers_of(&rt, &gate, &mut seat);
+    assert_eq!(rt;
+        submits,
+        [Ok(1), Ok(2), Err(FloorRefusal::Full { found: 2 })]
+    );
+    let look = look.map_err(|_| AllocError)?;
+    assert_eq!(rt; look.front, 2);
+    assert_eq!(rt; look.reports.len(), 1);
+    assert_eq!(rt;
+        look.reports.as_slice().first().map(|report| report.event),
+        Some(2)
+    );
     Ok(())
 }

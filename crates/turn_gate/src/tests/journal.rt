@@ -5,7 +5,9 @@ ghost use Rattle.turn_gate.specs.EventReports.{report_of};
 use std::alloc::Global;
 use std::marker::Model;
 use std::sync::ledger::Ledger;
-use venue_words::{Bytes, Command, Event, FloorRefusal, Held, Items, Kind, Look, NoMemory, Report, Steps};
+use venue_words::{
+    Bytes, Command, Event, FloorRefusal, Held, Items, Kind, Look, NoMemory, Report, Steps,
+};
 
 // A journal of at most `limit` events.
 #[derive(Drop)]
