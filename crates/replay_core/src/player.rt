@@ -197,7 +197,13 @@ impl Player {
                 line: self.lines + 1,
             });
         }
-        let (told, out) = record(self.alloc, &self.config, &mut self.events, self.told, command)?;
+        let (told, out) = record(
+            self.alloc,
+            &self.config,
+            &mut self.events,
+            self.told,
+            command,
+        )?;
         self.told = told;
         Ok(out)
     }
@@ -221,12 +227,14 @@ impl Player {
                 bid: Some(bid),
                 offer: Some(offer),
             }),
-            Some(BodyLine::Order {
-                member,
-                id,
-                side,
-                shares,
-            }) => self.record(Command::New {
+            Some(
+                BodyLine::Order {
+                    member,
+                    id,
+                    side,
+                    shares,
+                },
+            ) => self.record(Command::New {
                 member,
                 id,
                 terms: mid_terms(side, shares),
