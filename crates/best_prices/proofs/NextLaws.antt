@@ -1,5 +1,5 @@
 -- The national quote that is kept is the one that all rows give.
-use Rattle.std.proofs.Common.{◌≡◌, ℕ, zero, suc, ◌<◌, ◌≤◌, min, max, nat_eq, Bool, true, false, not, ◌&&◌, cond, ◌≢◌, List, [], ◌∷◌, length, map, get_or, set, replicate, Option, Some, None, refl, sym, ◌∙◌, ap, subst, arith}
+use Rattle.std.proofs.Common.{◌≡◌, ℕ, zero, suc, ◌<◌, min, max, nat_eq, Bool, true, false, not, ◌&&◌, cond, ◌≢◌, List, length, map, get_or, set, replicate, Option, Some, None, refl, sym, ◌∙◌, ap, arith}
 use Rattle.std.specs.Bool.{OnTrue, OnFalse}
 use Rattle.std.specs.Option.{option_eq}
 use Rattle.std.proofs.lemmas.Bool.Decides.{nat_tests}
