@@ -1,5 +1,5 @@
 -- What a report says, by its kind.
-use Rattle.std.specs.Prelude.{ℕ, ◌==◌, Bool, true, false, ◌||◌, if◌then◌else◌, ℤ, List, Option, Some, None, option_and_then, option_map, decimal}
+use Rattle.std.specs.Prelude.{ℕ, ◌==◌, Bool, true, false, ◌||◌, if◌then◌else◌, List, Option, Some, None, option_and_then, option_map, decimal}
 use Rattle.std.specs.Option.{option_map_or}
 use Rattle.venue_words.specs.declared.price.Side.{Side}
 use Rattle.venue_words.specs.declared.price.Side.TheVariants.{Buy, Sell}
