@@ -11,6 +11,7 @@ use Rattle.fix_fields.specs.declared.field.Field.{Field}
 use Rattle.fix_fields.specs.declared.field.FieldFault.{FieldFault}
 use Rattle.fix_fields.specs.Fields.{split}
 use Rattle.fix_fields.specs.Forms.{number_of}
+use Rattle.quote_intake.specs.Price.{cents_of}
 use Rattle.script_text.specs.Escaping.{is_plain}
 use Rattle.replay_core.specs.declared.body_line.BodyLine.{BodyLine}
 use Rattle.replay_core.specs.declared.body_line.BodyLine.TheVariants.{FirstQuote, Logon, Order}
@@ -27,22 +28,6 @@ abbrev pub is_only : List (List ℕ) → List ℕ → Bool
 is_only names name = (length names == 1) && list_any (λ other. bytes_eq other name) names
 
 -- ---- the quote
-
--- cents from 1 to 1,999,999, from a whole part and two decimals
-unfoldable pub cents_in : Option ℕ → Option ℕ → Option ℕ
-cents_in None part = None
-cents_in (Some whole) None = None
-cents_in (Some whole) (Some part) =
-    if nat_lt 0 (whole * 100 + part) && nat_le (whole * 100 + part) 1999999 then Some (whole * 100 + part) else None
-
--- a price of a quote in cents: digits without a needless leading zero, a point, and two digits
-unfoldable pub cents_of : List ℕ → Option ℕ
-cents_of text =
-    let whole = before_byte 46 text in
-    let part = behind_byte 46 text in
-    if (length whole == 0) || (nat_lt 5 (length whole) || (not (length part == 2)
-    || ((slice_index whole 0 == 48) && not (length whole == 1))))
-    then None else cents_in (number_of whole) (number_of part)
 
 -- a bid below an offer
 unfoldable pub regular_quote : Option ℕ → Option ℕ → Option BodyLine

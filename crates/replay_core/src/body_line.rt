@@ -2,9 +2,9 @@
 ghost use Rattle.std.specs.Prelude.{◌≡◌, ℕ, ◌+◌, ◌<◌, ◌≤◌, ◌==◌, ◌&&◌, ◌||◌, Bool, List, Some, None, Ok, Err, length, map, position, IfOk, IfSome, decimal, count_by};
 ghost use Rattle.std.specs.List.{before_first, after_first, list_any, list_all};
 ghost use Rattle.std.specs.Str.{bytes_eq};
-ghost use Rattle.replay_core.specs.BodyLine.{before_byte, behind_byte, is_only, cents_in, cents_of, regular_quote, quote_line};
+ghost use Rattle.replay_core.specs.BodyLine.{before_byte, behind_byte, is_only, regular_quote, quote_line};
 
-use fix_fields::number;
+use quote_intake::cents;
 use venue_words::{Bytes, Config, Items};
 
 /// A line behind the header of a script.
@@ -56,36 +56,6 @@ fn is_only(names: &Items<Bytes>, name: &[u8]) -> bool
             .any(|other| other.as_slice() == name)
 }
 
-#[tactic(auto, unfolding(crate::specs::BodyLine::cents_in))]
-fn cents_in(whole: Option<u32>, part: Option<u32>) -> Option<u32>
-    requires { IfSome whole (λ n. n < 1000000000) }
-    ensures { result ≡ cents_in whole part }
-{
-    let (Some(whole), Some(part)) = (whole, part) else {
-        return None;
-    };
-    let cents = u64::from(whole) * 100 + u64::from(part);
-    if 0 < cents && cents <= 1_999_999 {
-        Some(cents as u32)
-    } else {
-        None
-    }
-}
-
-/// The cents of a price of a quote.
-#[tactic(auto, unfolding(crate::specs::BodyLine::cents_of))]
-fn cents_of(text: &[u8]) -> Option<u32>
-    ensures { result ≡ cents_of text.now }
-{
-    let (whole, part) = cut_at(b'.', text);
-    if whole.is_empty()
-        || (whole.len() > 5 || (part.len() != 2 || (whole[0] == b'0' && whole.len() != 1)))
-    {
-        return None;
-    }
-    cents_in(number(whole), number(part))
-}
-
 #[tactic(auto, unfolding(crate::specs::BodyLine::regular_quote))]
 fn regular_quote(bid: Option<u32>, offer: Option<u32>) -> Option<BodyLine>
     ensures { result ≡ regular_quote bid offer }
@@ -109,7 +79,7 @@ pub fn quote_line(config: &Config, text: &[u8]) -> Option<BodyLine>
     let (market, prices) = cut_at(b' ', behind_symbol);
     let (bid, offer) = cut_at(b' ', prices);
     if is_only(&config.symbols, symbol) && is_only(&config.markets, market) {
-        regular_quote(cents_of(bid), cents_of(offer))
+        regular_quote(cents(bid), cents(offer))
     } else {
         None
     }
