@@ -10,6 +10,7 @@ use venue_words::NoMemory;
 /// Two Heartbeats of a session, numbers 2 and 3.
 const SECOND: &[u8] =
     b"8=FIXT.1.1\x019=48\x0135=0\x0149=A\x0156=PEGV\x0134=2\x0152=20240102-14:30:00.000\x0110=125\x01";
+
 const THIRD: &[u8] =
     b"8=FIXT.1.1\x019=48\x0135=0\x0149=A\x0156=PEGV\x0134=3\x0152=20240102-14:30:00.000\x0110=126\x01";
 
@@ -24,7 +25,8 @@ const SHORT: &[u8] = b"8=FIXT.1.1\x019=5\x0135=0\x0110=241\x01";
 const FIVE_DIGITS: &[u8] = b"8=FIXT.1.1\x019=00005\x0135=0\x0110=177\x01";
 
 /// Data that hold a whole frame, in a frame whose CheckSum is wrong.
-const FRAME_IN_DATA: &[u8] = b"8=FIXT.1.1\x019=86\x0135=B\x0195=71\x0196=8=FIXT.1.1\x019=48\x0135=0\x0149=A\x0156=PEGV\x0134=2\x0152=20240102-14:30:00.000\x0110=125\x01\x0110=178\x01";
+const FRAME_IN_DATA: &[u8] =
+    b"8=FIXT.1.1\x019=86\x0135=B\x0195=71\x0196=8=FIXT.1.1\x019=48\x0135=0\x0149=A\x0156=PEGV\x0134=2\x0152=20240102-14:30:00.000\x0110=125\x01\x0110=178\x01";
 
 /// Data that hold SOH.
 const SOH_IN_DATA: &[u8] =
@@ -60,14 +62,20 @@ fn assert_frames(
     let bytes = stream.as_slice();
     for cut in 0..bytes.len() {
         let reading = read_frames(alloc, &[&bytes[..cut], &bytes[cut..]])?;
-        assert!(rt; is_as_wanted(&reading, want, too_long), "{bytes:?} cut at {cut}: {reading:?}");
+        assert!(rt;
+            is_as_wanted(&reading, want, too_long),
+            "{bytes:?} cut at {cut}: {reading:?}"
+        );
     }
     let mut single = Vec::new(alloc);
     for byte in bytes.chunks(1) {
         single.push(byte)?;
     }
     let reading = read_frames(alloc, single.as_slice())?;
-    assert!(rt; is_as_wanted(&reading, want, too_long), "{bytes:?} byte by byte: {reading:?}");
+    assert!(rt;
+        is_as_wanted(&reading, want, too_long),
+        "{bytes:?} byte by byte: {reading:?}"
+    );
     Ok(())
 }
 
@@ -85,7 +93,10 @@ fn whole_frames_are_given_and_garbled_bytes_are_passed_over(rt: HostRuntime) -> 
         (&[WRONG_SUM], &[]),
         (&[WRONG_SUM, THIRD], &[THIRD]),
         (&[FRAME_IN_DATA, THIRD], &[SECOND, THIRD]),
-        (&[b"xyz\x01", SECOND, b"\x01\x01", THIRD, b"8=FIX"], &[SECOND, THIRD]),
+        (
+            &[b"xyz\x01", SECOND, b"\x01\x01", THIRD, b"8=FIX"],
+            &[SECOND, THIRD],
+        ),
         (&[garbled, SECOND], &[SECOND]),
         (&[half, SECOND], &[SECOND]),
         (&[b"8=FIXT.1.1\x01", SECOND], &[SECOND]),
@@ -163,7 +174,10 @@ fn the_longest_frame_is_given(rt: HostRuntime) -> Result<(), Fail> {
     assert_eq!(rt; bytes.len(), LONGEST_FRAME);
     for cut in [0, 1, 20, 4096, 8191] {
         let reading = read_frames(rt.alloc(), &[&bytes[..cut], &bytes[cut..], SHORT])?;
-        assert!(rt; is_as_wanted(&reading, &[bytes, SHORT], false), "cut at {cut}");
+        assert!(rt;
+            is_as_wanted(&reading, &[bytes, SHORT], false),
+            "cut at {cut}"
+        );
     }
     let longer = text_frame(rt.alloc(), 8159)?;
     let reading = read_frames(rt.alloc(), &[longer.as_slice()])?;
