@@ -1,10 +1,10 @@
 -- What a step of the framer says of the stream.
-use Rattle.std.proofs.Common.{◌≡◌, ℕ, ◌+◌, ◌-◌, ◌<◌, ◌≤◌, List, [], ◌∷◌, ◌++◌, length, take, drop, refl, sym, ◌∙◌, ap, subst, arith, length-drop, length-take, ◌⊎◌, inl, inr}
+use Rattle.std.proofs.Common.{◌≡◌, ℕ, ◌+◌, ◌-◌, ◌≤◌, List, ◌++◌, length, take, drop, sym, ◌∙◌, ap, subst, arith, length-drop, ◌⊎◌, inl, inr}
 use Rattle.std.proofs.lemmas.List.{take_rest, drop-drop, length-take-le}
 use Rattle.fix_frames.specs.declared.place.Place.{Place}
 use Rattle.fix_frames.specs.declared.place.Place.TheVariants.{Passed, Unfinished, Long, Whole}
 use Rattle.fix_frames.specs.PlaceLaws.{place_at-short}
-use Rattle.fix_frames.specs.Streams.{Stream, Answer, waits, exceeds, gives, GoesOn, HasGiven, HasWaited, HasExceeded, next_from, Skips}
+use Rattle.fix_frames.specs.Streams.{Stream, gives, HasGiven, HasWaited, HasExceeded, next_from, Skips}
 use Rattle.fix_frames.specs.Search.{IsFound, EndsWithin}
 use Rattle.fix_frames.specs.StreamLaws.{next_from-whole, next_from-long, next_from-long_on, next_from-unfinished, next_from-few_left}
 

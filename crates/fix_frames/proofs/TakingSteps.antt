@@ -1,14 +1,13 @@
 -- What taking frames one by one says of the whole stream.
-use Rattle.std.proofs.Common.{◌≡◌, ℕ, ◌+◌, ◌-◌, ◌<◌, ◌≤◌, Bool, true, false, List, [], ◌∷◌, ◌++◌, length, drop, get_or, refl, sym, ◌∙◌, ap, subst, arith, append_assoc, length-drop}
+use Rattle.std.proofs.Common.{◌≡◌, ℕ, ◌+◌, ◌<◌, Bool, true, List, [], ◌++◌, length, drop, get_or, refl, sym, ◌∙◌, ap, arith, append_assoc, length-drop}
 use Rattle.std.specs.List.{flat_map}
 use Rattle.std.proofs.lemmas.List.{append-nil, drop_more}
 use Rattle.fix_frames.specs.declared.reading.Reading.{Reading}
-use Rattle.fix_frames.specs.declared.framer.Next.{Next}
 use Rattle.fix_frames.specs.declared.reading.Taken.TheVariants.{Frame, Wait, TooLong}
 use Rattle.fix_frames.specs.Streams.{Stream, HasGiven, HasWaited, HasExceeded}
 use Rattle.fix_frames.specs.Reading.{none_yet, with_frames, reading_of}
 use Rattle.fix_frames.specs.ReadingLaws.{lies_in, reading-given, reading-waited, reading-none, reading-exceeded, reading-exceeded_on}
-use Rattle.fix_frames.specs.Taking.{Continues, IsOverLimit, Takes, TakesAll}
+use Rattle.fix_frames.specs.Taking.{IsOverLimit, Takes, TakesAll}
 
 abbrev over_limit : List (List ℕ) → Reading
 over_limit frames = record { frames = frames; too_long = true }

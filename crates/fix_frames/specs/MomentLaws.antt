@@ -1,13 +1,11 @@
 -- A moment that is written is read as the same.
-use Rattle.std.proofs.Common.{◌≡◌, ℕ, suc, ◌+◌, ◌-◌, ◌*◌, ◌/◌, ◌%◌, ◌<◌, ◌≤◌, Bool, true, false, List, [], ◌∷◌, ◌++◌, length, take, drop, get_or, Option, Some, ℤ, pos, negsuc, ◌+ℤ◌, ◌*ℤ◌, ◌<ℤ◌, ◌≤ℤ◌, refl, sym, ◌∙◌, ap, arith, leb, ltb, eqb, append_assoc, length-append}
+use Rattle.std.proofs.Common.{◌≡◌, ℕ, suc, ◌+◌, ◌*◌, ◌/◌, ◌%◌, ◌<◌, ◌≤◌, true, false, List, [], ◌∷◌, ◌++◌, length, take, drop, get_or, Some, ℤ, pos, negsuc, ◌+ℤ◌, ◌*ℤ◌, ◌<ℤ◌, ◌≤ℤ◌, refl, sym, ◌∙◌, ap, arith, leb, ltb, eqb, append_assoc, length-append}
 use Rattle.std.specs.Char.{is_ascii_digit, digit_value}
-use Rattle.std.specs.List.{list_all}
-use Rattle.std.specs.Str.Parse.{digits_value}
 use Rattle.std.proofs.lemmas.Bool.{and_from, le-leb}
 use Rattle.std.proofs.lemmas.Bool.Decides.{nat_tests}
 use Rattle.std.proofs.lemmas.Int.{ints}
 use Rattle.std.proofs.lemmas.List.{take_at, drop_at, drop-drop, get_or_at}
-use Rattle.jiff_core.specs.Calendar.{IsCivilDate, days_in_month, day_count, days_from_civil}
+use Rattle.jiff_core.specs.Calendar.{IsCivilDate, days_in_month, days_from_civil}
 use Rattle.jiff_core.proofs.SignedLemmas.{signed_arith}
 use Rattle.jiff_core.proofs.CalendarLemmas.{days_from_civil-day_count, days_in_month_bounds}
 use Rattle.fix_fields.specs.Forms.{numeral, is_date, civil_day, day_number, second_of_day, milliseconds, moment_of}
@@ -80,8 +78,7 @@ date_text-read day h =
     let c = civil_of day in
     let valid = civil_valid day h in
     let year : c.year < 10000 = omega (arith, ints, valid.0) in
-    let most : days_in_month (pos c.year) c.month ≤ 31 = (days_in_month_bounds (pos c.year) c.month).0 in
-    (
+    let most : days_in_month (pos c.year) c.month ≤ 31 = (days_in_month_bounds (pos c.year) c.month).0 in (
       days_from_civil (pos c.year) c.month c.day,
       number_of_day day h,
       day_number-written c.year c.month c.day year (omega (arith, valid.1)) (omega (arith, valid.2)) ∙ civil_day-valid c.year c.month c.day valid,

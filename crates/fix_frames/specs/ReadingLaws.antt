@@ -1,12 +1,11 @@
 -- The frames of a stream don't depend on the pieces in which it comes.
-use Rattle.std.proofs.Common.{◌≡◌, ℕ, zero, suc, ◌+◌, ◌<◌, ◌≤◌, Bool, true, false, List, [], ◌∷◌, ◌++◌, length, take, drop, refl, sym, ◌∙◌, ap, subst, arith, length-append, length-drop}
-use Rattle.std.proofs.lemmas.List.{drop-drop, drop-append-le, length-take-le, append-nil}
+use Rattle.std.proofs.Common.{◌≡◌, ℕ, zero, suc, ◌+◌, ◌<◌, ◌≤◌, List, [], ◌∷◌, ◌++◌, length, take, drop, refl, sym, ◌∙◌, ap, arith, length-drop}
+use Rattle.std.proofs.lemmas.List.{drop-drop, drop-append-le, length-take-le}
 use Rattle.fix_frames.specs.declared.place.Place.{Place}
 use Rattle.fix_frames.specs.declared.place.Place.TheVariants.{Passed, Unfinished, Long, Whole}
 use Rattle.fix_frames.specs.Places.{place_at}
 use Rattle.fix_frames.specs.PlaceLaws.{place_at-fits, place_at-large}
-use Rattle.fix_frames.specs.Streams.{Answer, waits, exceeds, gives, advanced, answer_at, next_from, Skips, Stream, GoesOn, HasGiven, HasWaited, HasExceeded}
-use Rattle.fix_frames.specs.declared.reading.Reading.{Reading}
+use Rattle.fix_frames.specs.Streams.{Answer, waits, exceeds, gives, advanced, answer_at, next_from, Skips, Stream, HasGiven, HasWaited, HasExceeded}
 use Rattle.fix_frames.specs.Reading.{none_yet, only_too_long, with_frames, behind, reading_from, reading_of}
 
 -- a frame that comes next is not empty, and lies in the stream

@@ -1,8 +1,7 @@
 -- The answers over any list of calls are those of the whole stream.
-use Rattle.std.proofs.Common.{◌≡◌, ℕ, ◌+◌, ◌≤◌, List, [], ◌∷◌, ◌++◌, length, drop, refl, sym, ◌∙◌, ap, arith, append_assoc, length-append, length-drop}
+use Rattle.std.proofs.Common.{◌≡◌, ℕ, ◌+◌, List, [], ◌∷◌, ◌++◌, length, drop, refl, sym, ◌∙◌, ap, arith, append_assoc, length-append, length-drop}
 use Rattle.std.proofs.lemmas.List.{append-nil, drop-drop, drop-append-le}
-use Rattle.fix_frames.specs.Streams.{Stream, beginning, EndsWith, GoesOn, HasGiven, HasWaited, HasExceeded}
-use Rattle.fix_frames.specs.declared.reading.Reading.{Reading}
+use Rattle.fix_frames.specs.Streams.{Stream, beginning, EndsWith, GoesOn}
 use Rattle.fix_frames.specs.Reading.{none_yet, only_too_long, with_frames, reading_of}
 use Rattle.fix_frames.specs.ReadingLaws.{reading-given, reading-waited, reading-none, reading-exceeded, reading-exceeded_on}
 use Rattle.fix_frames.specs.Runs.{Call, feeds, gave, waited, exceeded, Leads, bytes_fed, frames_given}
@@ -48,7 +47,7 @@ goes_on : (bytes : List ℕ) (old next : Stream) (n : ℕ) → EndsWith bytes ol
 goes_on bytes old next n ends goes = record {
   passed = omega (arith, goes.passed, goes.inside, ap length ends.kept, length-drop old.passed bytes, ends.passed);
   kept =
-    ap (λ (k : ℕ). drop k bytes) goes.passed ∙ sym (drop-drop n old.passed bytes) ∙ ap (drop n) ends.kept ∙ sym goes.kept;
+      ap (λ (k : ℕ). drop k bytes) goes.passed ∙ sym (drop-drop n old.passed bytes) ∙ ap (drop n) ends.kept ∙ sym goes.kept;
 }
 
 ends-calls : (calls : List Call) (bytes : List ℕ) (old new : Stream) → EndsWith bytes old → Leads old calls new → EndsWith (bytes ++ bytes_fed calls) new

@@ -1,7 +1,7 @@
 -- What a search for the next frame finds.
 use Rattle.std.specs.Prelude.{◌≡◌, ℕ, ◌+◌, ◌≤◌, ◌<◌, List, length}
 use Rattle.fix_frames.specs.declared.place.Place.{Place}
-use Rattle.fix_frames.specs.declared.place.Place.TheVariants.{Passed, Unfinished, Long, Whole}
+use Rattle.fix_frames.specs.declared.place.Place.TheVariants.{Passed, Whole}
 use Rattle.fix_frames.specs.Places.{place_at}
 
 -- what was found at the front of bytes: with `Passed` there are too few for BeginString

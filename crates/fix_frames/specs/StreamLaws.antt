@@ -1,7 +1,7 @@
 -- How the answer moves along a stream.
-use Rattle.std.proofs.Common.{◌≡◌, ℕ, suc, zero, ◌+◌, ◌-◌, ◌<◌, ◌≤◌, List, [], ◌∷◌, ◌++◌, length, take, drop, refl, sym, ◌∙◌, ap, subst, arith, Bool, true, false, cond, nat_eq, length-append, length-drop, length-take}
+use Rattle.std.proofs.Common.{◌≡◌, ℕ, ◌+◌, ◌<◌, ◌≤◌, List, [], ◌∷◌, ◌++◌, length, take, drop, refl, sym, ◌∙◌, ap, arith, true, false, cond, nat_eq, length-drop, length-take}
 use lib.Pointwise.{pointwise_long}
-use Rattle.std.proofs.lemmas.List.{take-append-le, drop-append-le, drop-drop, append-nil}
+use Rattle.std.proofs.lemmas.List.{take-append-le, drop-drop, append-nil}
 use Rattle.fix_frames.specs.declared.place.Place.{Place}
 use Rattle.fix_frames.specs.declared.place.Place.TheVariants.{Passed, Unfinished, Long, Whole}
 use Rattle.fix_frames.specs.Places.{place_at, begins, begin_string, judged, body_length}

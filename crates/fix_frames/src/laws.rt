@@ -30,8 +30,7 @@ pub fn any_calls()
 
     // What is kept is the end of the stream, behind the bytes that were passed over or given.
     ensures kept { (calls : List Call) (new : Stream) → Leads beginning calls new → EndsWith (bytes_fed calls) new }
-{
-}
+{}
 
 /// What is written as a frame of at most `LONGEST_FRAME` bytes is the next frame of a stream that begins with it,
 /// whatever follows it.
@@ -41,19 +40,17 @@ pub fn written_frames()
         (body more : List ℕ) → (body ≡ []) ⊎ EndsWithSoh body →
         length (frame_of kind sender target number moment first_sent body) ≤ LONGEST_FRAME →
         next_from (frame_of kind sender target number moment first_sent body ++ more)
-            ≡ gives 0 (frame_of kind sender target number moment first_sent body) }
+        ≡ gives 0 (frame_of kind sender target number moment first_sent body) }
 
     // Fields that are given, the first of which is MsgType (35).
     ensures fields { (content start more : List ℕ) → content ≡ codes "35=" ++ start → EndsWithSoh content →
         length (wrapped content) ≤ LONGEST_FRAME → next_from (wrapped content ++ more) ≡ gives 0 (wrapped content) }
-{
-}
+{}
 
 /// A field is written as it is spelled where it is read.
 pub fn written_fields()
     ensures { (tag : ℕ) (value : List ℕ) → field tag value ≡ spelling (record { tag = tag; bytes = value }) }
-{
-}
+{}
 
 /// A moment that is written is read as the same, or, outside the years 0000 to 9999, as the nearest one inside.
 pub fn written_moments()
@@ -61,5 +58,4 @@ pub fn written_moments()
         moment_of (moment_text moment) ≡ Some moment }
     ensures before { (moment : ℤ) → moment <ℤ FIRST_MOMENT → moment_of (moment_text moment) ≡ Some FIRST_MOMENT }
     ensures after { (moment : ℤ) → LAST_MOMENT <ℤ moment → moment_of (moment_text moment) ≡ Some LAST_MOMENT }
-{
-}
+{}

@@ -9,3 +9,6 @@ pub mod reading;
 pub use fix_fields::LONGEST_FRAME;
 pub use framer::{Framer, Next};
 pub use reading::{Reading, read_frames};
+
+#[cfg(test)]
+mod tests;

@@ -1,4 +1,4 @@
-use Rattle.std.proofs.Common.{◌≡◌, ◌<◌, ◌≤◌, ◌^◌, drop, ℕ}
+use Rattle.std.proofs.Common.{◌≡◌, ◌<◌, ◌≤◌, ◌^◌, drop}
 use Rattle.fix_frames.specs.Places.{length_after}
 use Rattle.fix_frames.proofs.place.digits_at.Given as goal
 

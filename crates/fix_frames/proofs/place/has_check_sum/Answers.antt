@@ -1,5 +1,5 @@
 -- The slices that are compared are the bytes from a place on.
-use Rattle.std.proofs.Common.{◌≡◌, ◌+◌, ℕ, Bool, true, List, drop, ◌++◌, ◌∷◌, [], eqb, sym, ◌∙◌, ap}
+use Rattle.std.proofs.Common.{◌≡◌, ◌+◌, ℕ, true, List, drop, ◌++◌, ◌∷◌, [], eqb, sym, ◌∙◌, ap}
 use Rattle.std.specs.Prelude.{codes}
 use Rattle.std.specs.List.{starts_with}
 use Rattle.std.proofs.lemmas.List.{take_rest}

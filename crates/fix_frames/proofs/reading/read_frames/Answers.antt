@@ -1,9 +1,8 @@
 -- Piece by piece the frames taken and those that are left stay the frames of all pieces.
-use Rattle.std.proofs.Common.{◌≡◌, ℕ, Bool, true, List, [], ◌++◌, drop, length, refl, ap, sym, ◌∙◌, subst}
+use Rattle.std.proofs.Common.{◌≡◌, Bool, refl, ap, subst}
 use Rattle.std.specs.Prelude.{MatchBool}
-use Rattle.std.specs.List.{flat_map}
 use Rattle.fix_frames.specs.Streams.{Stream}
-use Rattle.fix_frames.specs.Reading.{none_yet, with_frames, reading_of}
+use Rattle.fix_frames.specs.Reading.{none_yet, reading_of}
 use Rattle.fix_frames.specs.Taking.{IsOverLimit}
 use Rattle.fix_frames.proofs.TakingSteps.{reading_of-nil, fed_one, all_taken}
 use Rattle.fix_frames.proofs.reading.read_frames.Goals as goal

@@ -1,5 +1,5 @@
 -- The frames so far, and then those of the bytes kept and of the pieces that are left, are those of all pieces.
-use Rattle.std.proofs.Common.{◌≡◌, List, ◌++◌, drop}
+use Rattle.std.proofs.Common.{◌≡◌, ◌++◌, drop}
 use Rattle.std.specs.List.{flat_map}
 use Rattle.fix_frames.specs.Reading.{none_yet, with_frames, reading_of}
 use Rattle.fix_frames.proofs.reading.read_frames.Given as goal

@@ -1,5 +1,5 @@
 -- The new stream is what the borrow of the framer ends with.
-use Rattle.std.proofs.Common.{◌≡◌, ℕ, List, ap, sym, subst}
+use Rattle.std.proofs.Common.{ℕ, List, sym, subst}
 use Rattle.fix_frames.specs.declared.framer.Next.{Next}
 use Rattle.fix_frames.specs.declared.reading.Taken.TheVariants.{Frame}
 use Rattle.fix_frames.specs.Streams.{IsNext}
