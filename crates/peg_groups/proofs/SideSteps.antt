@@ -1,5 +1,5 @@
 -- A side of groups when a row enters or leaves it.
-use Rattle.std.proofs.Common.{◌≡◌, ◌≢◌, ◌⊎◌, ℕ, zero, suc, ◌<◌, ◌≤◌, min, max, Bool, true, false, cond, ltb, eqb, List, [], ◌∷◌, length, Option, Some, None, refl, ap, sym, ◌∙◌, subst, arith, inl, inr, slice_get}
+use Rattle.std.proofs.Common.{◌≡◌, ◌≢◌, ◌⊎◌, ℕ, zero, suc, ◌<◌, ◌≤◌, min, max, Bool, true, false, cond, ltb, eqb, List, [], ◌∷◌, length, Option, Some, None, refl, ap, sym, ◌∙◌, subst, arith, inl, inr, slice_get, ◌^◌}
 use Rattle.std.proofs.lemmas.Bool.{ne_eqb, eq-eqb}
 use Rattle.indexmap.specs.IndexMap.{set_value_at}
 use Rattle.venue_words.specs.Conditions.{IsQuote}
@@ -80,19 +80,19 @@ side_enters side key row p new s e absent is f =
       put ∙ ap (λ (q : Priced). insert_by_entry q (rows_of side.entries)) (f e.group (has_found key side.entries e.i e.group e.at) (group_in side.best side.event side.entries e.i key e.group s.groups e.at)),
     )
 
-pub side_put : (side : GroupsView) (row : Row) (new : List (Key × Group)) → IsGroupSide side → EntersGroup row.key row side.entries new → IsLaterThan (groups_state side) row.entry → 1 ≤ row.cap → IsGroupSide (record { entries = new; best = side.best; event = side.event }) × (rows_of new ≡ insert_by_entry (entered side.best row) (rows_of side.entries))
-side_put side row new s e later least =
-    side_enters side row.key row (entered side.best row) new s e (absent_later side.entries row.entry later.times) (record { key_is = refl; least = least }) (λ group has g. entered_is side.best side.event row.key group row g refl later.pricing)
+pub side_put : (side : GroupsView) (row : Row) (new : List (Key × Group)) → IsGroupSide side → EntersGroup row.key row side.entries new → IsLaterThan (groups_state side) row.entry → 1 ≤ row.cap → row.entry < 2 ^ 32 → IsGroupSide (record { entries = new; best = side.best; event = side.event }) × (rows_of new ≡ insert_by_entry (entered side.best row) (rows_of side.entries))
+side_put side row new s e later least small =
+    side_enters side row.key row (entered side.best row) new s e (absent_later side.entries row.entry later.times) (record { key_is = refl; least = least; small = small }) (λ group has g. entered_is side.best side.event row.key group row g refl later.pricing)
 
 back_is : (entries : List (Key × Group)) (p : Priced) (group : Group) (best : Best) (event : ℕ) → FitsGroup entries (standing_of p) → ((m : Staircase) → HasMoves p.row.key m entries → group.moves ≡ m) → priced_in group.moves p.row ≡ p
 back_is entries p group best event f only =
     let e : group.moves ≡ f.moves = only f.moves f.has in
     rw e (λ i. record { row = p.row; value = sym f.value i; time = sym f.time i })
 
-pub side_back : (side : GroupsView) (p : Priced) (new : List (Key × Group)) → IsGroupSide side → EntersGroup p.row.key p.row side.entries new → IsAbsent p.row.entry (rows_of side.entries) → FitsGroup side.entries (standing_of p) → IsGroupSide (record { entries = new; best = side.best; event = side.event }) × (rows_of new ≡ insert_by_entry p (rows_of side.entries))
-side_back side p new s e absent f =
+pub side_back : (side : GroupsView) (p : Priced) (new : List (Key × Group)) → IsGroupSide side → EntersGroup p.row.key p.row side.entries new → IsAbsent p.row.entry (rows_of side.entries) → FitsGroup side.entries (standing_of p) → p.row.entry < 2 ^ 32 → IsGroupSide (record { entries = new; best = side.best; event = side.event }) × (rows_of new ≡ insert_by_entry p (rows_of side.entries))
+side_back side p new s e absent f small =
     let put : rows_of new ≡ insert_by_entry (priced_in e.group.moves p.row) (rows_of side.entries) = ap rows_of e.left ∙ rows_put side.best side.event side.entries e.i p.row.key e.group p.row s.groups e.at absent in (
-      record { groups = rw e.left (groups_put side.best side.event side.entries e.i p.row.key e.group p.row s.groups e.at absent (record { key_is = refl; least = f.least })); quote = s.quote },
+      record { groups = rw e.left (groups_put side.best side.event side.entries e.i p.row.key e.group p.row s.groups e.at absent (record { key_is = refl; least = f.least; small = small })); quote = s.quote },
       put ∙ ap (λ (q : Priced). insert_by_entry q (rows_of side.entries)) (back_is side.entries p e.group side.best side.event f (λ m has. only_moves side.best side.event p.row.key m side.entries e.i e.group s.groups has e.at)),
     )
 
@@ -133,7 +133,7 @@ left_fits side key cap entry row new s e p h =
       some_priced k = cc
 
 -- no row stands there
-other_keys : (best : Best) (event : ℕ) (key : Key) (entries : List (Key × Group)) → AreGroups best event entries → EachGroup (λ k _. k ≡ key → ⊥) entries → AllByRecursion (λ p. p.row.key ≡ key → ⊥) (rows_of entries)
+pub other_keys : (best : Best) (event : ℕ) (key : Key) (entries : List (Key × Group)) → AreGroups best event entries → EachGroup (λ k _. k ≡ key → ⊥) entries → AllByRecursion (λ p. p.row.key ≡ key → ⊥) (rows_of entries)
 other_keys best event key [] a f = tt
 other_keys best event key (e ∷ es) a f =
     each_merged (λ p. p.row.key ≡ key → ⊥) e.1.moves e.1.tree (rows_of es) (all_weaken {A = Row} (IsRowOf e.0) (λ row. row.key ≡ key → ⊥) (λ row r x. f.0 (sym r.key_is ∙ x)) e.1.tree a.0.rows) (other_keys best event key es a.3 f.1)

@@ -1,5 +1,5 @@
 -- A side as groups of rows by key.
-use Rattle.std.specs.Prelude.{◌≡◌, ◌⊎◌, ℕ, zero, suc, ◌+◌, ◌<◌, ◌≤◌, ◌==◌, min, Bool, true, false, not, Option, Some, None, List, [], ◌∷◌, ◌++◌, length, if◌then◌else◌, slice_get, MatchOption, filter}
+use Rattle.std.specs.Prelude.{◌≡◌, ◌⊎◌, ℕ, zero, suc, ◌+◌, ◌^◌, ◌<◌, ◌≤◌, ◌==◌, min, Bool, true, false, not, Option, Some, None, List, [], ◌∷◌, ◌++◌, length, if◌then◌else◌, slice_get, MatchOption, filter}
 use Rattle.venue_words.specs.Conditions.{IsKey, IsQuote}
 use Rattle.venue_words.specs.Priority.{is_ahead_if_active}
 use Rattle.venue_words.specs.declared.row.Priced.{Priced}
@@ -41,6 +41,7 @@ EachGroup P (item ∷ entries) = P item.0 item.1 × EachGroup P entries
 pub record IsRowOf (key : Key) (row : Row) : Type 0 where
   pub key_is : row.key ≡ key
   pub least : 1 ≤ row.cap
+  pub small : row.entry < 2 ^ 32
 
 -- the moves of a group end with the key's value at the quote, and none is after the event
 pub record IsGroup (best : Best) (event : ℕ) (key : Key) (group : Group) : Type 0 where
@@ -67,6 +68,11 @@ groups_state side = record { rows = rows_of side.entries; best = side.best; even
 pub record IsGroupSide (side : GroupsView) : Type 0 where
   pub groups : AreGroups side.best side.event side.entries
   pub quote : IsQuote side.best
+
+-- a side that also keeps the number of its rows
+pub record IsCounted (side : GroupsView) (len : ℕ) : Type 0 where
+  pub is : IsGroupSide side
+  pub len_is : len ≡ length (rows_of side.entries)
 
 -- the group of the key has these moves
 abbrev pub HasMoves : Key → Staircase → List (Key × Group) → Type 0

@@ -8,7 +8,7 @@ ghost use Rattle.peg_groups.specs.Groups.{HasNew, HasGroup, HaveRoom, IsRoomier,
 ghost use Rattle.peg_groups.specs.declared.group.Group.{Group};
 
 use crate::group::Group;
-use crate::groups::group_of;
+use crate::groups::{group_at, group_of};
 use crate::pricing::number_of;
 use indexmap::IndexMap;
 use limit_tree::LimitTree;
@@ -84,4 +84,17 @@ pub fn drop_empty<L: Ledger>(groups: &mut IndexMap<Key, Group>, steps: &mut Step
             ensures { (result ≡ not (is_empty group.old.tree)) × (group.new ≡ group.old) }
         { !group.tree.is_empty() },
     );
+}
+
+/// How many groups have a row.
+pub fn used_groups(groups: &IndexMap<Key, Group>) -> usize
+    ensures { result ≡ length (filter is_used groups.now.entries) }
+{
+    let mut count = 0;
+    for i in 0..groups.len() {
+        if !group_at(groups, i).tree.is_empty() {
+            count += 1;
+        }
+    }
+    count
 }

@@ -1,5 +1,5 @@
 //! What one side of a book is, however it keeps its rows.
-ghost use Rattle.std.specs.Prelude.{◌≡◌, ℕ, ◌+◌, ◌*◌, ◌<◌, ◌≤◌, IfSome, IsNone, OnOk, OnErr, MatchOption};
+ghost use Rattle.std.specs.Prelude.{◌≡◌, ℕ, ◌+◌, ◌*◌, ◌<◌, ◌≤◌, length, IfSome, IsNone, OnOk, OnErr, MatchOption};
 ghost use Rattle.std.specs.Option.{ForSome};
 ghost use Rattle.limit_tree.specs.Part.{IsLeaf};
 ghost use Rattle.venue_words.specs.Conditions.{IsQuote, IsKey, IsRow};
@@ -8,6 +8,7 @@ ghost use Rattle.venue_words.specs.Retime.{reprice};
 ghost use Rattle.venue_words.specs.Rows.{IsAbsent, IsByEntry};
 ghost use Rattle.venue_words.specs.declared.row.Key.{Key};
 ghost use Rattle.venue_words.specs.declared.row.Priced.{Priced};
+ghost use Rattle.peg_groups.specs.KeyCount.{key_count};
 ghost use Rattle.peg_groups.specs.Side.{SideState, Standing, IsLaterThan, IsCut, IsHeldAt, NoneAt, entered, standing_of, taken_row, with_row, without};
 
 use limit_tree::Node;
@@ -44,6 +45,14 @@ pub trait SideBook {
 
     /// That a pricing can be done without memory.
     ghost move_room: { Self → Type 0 };
+
+    /// The number of rows.
+    fn len(&self) -> usize
+        ensures { result ≡ length (state self.now).rows };
+
+    /// The number of different keys of the rows.
+    fn groups(&self) -> usize
+        ensures { result ≡ key_count (state self.now).rows };
 
     /// Makes room for one row of the key, where one is given, and for one pricing. A refusal leaves the rows
     /// and all room that there was.

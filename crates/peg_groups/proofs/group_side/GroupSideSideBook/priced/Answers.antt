@@ -12,4 +12,4 @@ outcome side key cap entry None s m = none_placed side key cap entry s m
 outcome side key cap entry (Some pair) s m = priced_row side key cap entry pair.0 pair.1 s m
 
 pub returns-clause-found : goal.returns-clause-found
-returns-clause-found g c = rw (← c.self.view_is) (outcome (record { entries = c.self.inside.groups.entries; best = c.self.inside.best; event = c.self.inside.event }) c.args.key c.args.cap c.args.entry c.look_up.result c.self.invariant c.look_up.ensures.found)
+returns-clause-found g c = rw (← c.self.view_is) (outcome (record { entries = c.self.inside.groups.entries; best = c.self.inside.best; event = c.self.inside.event }) c.args.key c.args.cap c.args.entry c.look_up.result c.self.invariant.is c.look_up.ensures.found)

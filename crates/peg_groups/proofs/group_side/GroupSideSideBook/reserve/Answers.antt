@@ -9,14 +9,14 @@ use Rattle.peg_groups.proofs.group_side.GroupSideSideBook.reserve.Goals as goal
 
 module _ (c : goal.After-reserve_all) where
   result : IsReserved (record { entries = c.self.inside.groups.entries; best = c.self.inside.best; event = c.self.inside.event }) c.reserve_all.new.groups.entries
-  result = side_reserved (record { entries = c.self.inside.groups.entries; best = c.self.inside.best; event = c.self.inside.event }) c.args.key c.reserve_all.new.groups.entries c.self.invariant c.requires.key c.reserve_all.ensures.kept
+  result = side_reserved (record { entries = c.self.inside.groups.entries; best = c.self.inside.best; event = c.self.inside.event }) c.args.key c.reserve_all.new.groups.entries c.self.invariant.is c.requires.key c.reserve_all.ensures.kept
 
 none_of : (o : Option Key) → IsNone o → o ≡ None
 none_of None h = refl
 none_of (Some k) h = cc
 
 pub invariant_of-self : goal.invariant_of-self
-invariant_of-self c = (result c).is
+invariant_of-self c = record { is = (result c).is; len_is = c.self.invariant.len_is ∙ ap length (sym (result c).rows) }
 
 pub returns-clause-state : goal.returns-clause-state
 returns-clause-state c = rw (← c.self.view_is) (ap (λ (rows : List Priced). record { rows = rows; best = c.self.inside.best; event = c.self.inside.event }) (result c).rows)
@@ -37,4 +37,4 @@ pub returns-clause-no_key : goal.returns-clause-no_key
 returns-clause-no_key c = rw (← c.self.view_is) (λ none. reserved_none c.self.inside.best c.args.key c.self.inside.groups.entries c.reserve_all.new.groups.entries (none_of c.args.key none) c.reserve_all.ensures.kept)
 
 pub returns-clause-by_entry : goal.returns-clause-by_entry
-returns-clause-by_entry c = rw (← c.self.view_is) (by_entry_groups c.self.inside.best c.self.inside.event c.self.inside.groups.entries c.self.invariant.groups)
+returns-clause-by_entry c = rw (← c.self.view_is) (by_entry_groups c.self.inside.best c.self.inside.event c.self.inside.groups.entries c.self.invariant.is.groups)
