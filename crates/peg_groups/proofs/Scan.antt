@@ -7,6 +7,9 @@ use Rattle.venue_words.specs.declared.row.Row.{Row}
 use Rattle.venue_words.specs.Peg.{row_value}
 use Rattle.venue_words.specs.Priority.{is_ahead, is_ahead_if_active}
 use Rattle.std.specs.List.{AllByRecursion}
+use Rattle.std.specs.Option.{IsSomeAnd}
+use Rattle.move_history.specs.Staircase.{Staircase}
+use Rattle.peg_groups.proofs.GroupBest.{lower_value}
 use Rattle.venue_words.specs.ListLaws.{all_weaken}
 use Rattle.peg_groups.specs.Group.{time_in, IsGroupBest, value_from}
 use Rattle.peg_groups.specs.Groups.{EachGroup, EachUpTo, NoneBefore, NoneActiveIn, IsBestUpTo, BestUpTo, BestIn}
@@ -108,4 +111,25 @@ same_best entries i j key group new old h is b never = record {
   value_is = b.value_is;
   time_is = b.time_is;
   first = rw add-one (each_more (NoneBefore old) entries i key group b.first h (behind_both new old key group never (best_rows new key group is.0 is.1)));
+}
+
+-- a group of a lower value has no row that goes before
+lower_rows : (value time entry : ℕ) (m : Staircase) (rows : List Row) → m.current < value → AllByRecursion (λ row. is_ahead_if_active (row_value (value_from m.current) row.cap) (time_in m row.cap row.entry) row.entry (Some value) time entry ≡ false) rows
+lower_rows value time entry m [] less = tt
+lower_rows value time entry m (row ∷ rows) less = (go m.current row.cap (time_in m row.cap row.entry) row.entry less, lower_rows value time entry m rows less) where
+  go : (current cap t e : ℕ) → current < value → is_ahead_if_active (row_value (value_from current) cap) t e (Some value) time entry ≡ false
+  go zero cap t e h = refl
+  go (suc n) cap t e h = rw (ne_eqb (suc n) 0 (omega arith)) (lower_value (min (suc n) cap) t e value time entry (omega arith))
+
+pub keep_higher : (entries : List (Key × Group)) (i : ℕ) (key : Key) (group : Group) (best : Option (ℕ × Candidate)) → slice_get entries i ≡ Some (key, group) → IsSomeAnd best (λ b. group.moves.current < b.1.value) → BestUpTo entries i best → BestUpTo entries (i + 1) best
+keep_higher entries i key group None h less b = absurd less
+keep_higher entries i key group (Some (j, best)) h less b = record {
+  key = b.key;
+  group = b.group;
+  at = b.at;
+  held = b.held;
+  active = b.active;
+  value_is = b.value_is;
+  time_is = b.time_is;
+  first = rw add-one (each_more (NoneBefore best) entries i key group b.first h (lower_rows best.value best.time best.entry group.moves group.tree less));
 }

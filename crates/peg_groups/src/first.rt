@@ -1,5 +1,5 @@
 //! The first active row of all groups by priority.
-ghost use Rattle.std.specs.Prelude.{◌≡◌, ◌+◌, ◌*◌, ◌<◌, ◌≤◌, Some, IfSome, IsNone, length, slice_get};
+ghost use Rattle.std.specs.Prelude.{IsSomeAnd, true, ◌≡◌, ◌+◌, ◌*◌, ◌<◌, ◌≤◌, Some, IfSome, IsNone, length, slice_get};
 ghost use Rattle.indexmap.specs.IndexMap.{index_map_len};
 ghost use Rattle.limit_tree.specs.Part.{IsLeaf};
 ghost use Rattle.venue_words.specs.Priority.{is_ahead};
@@ -57,6 +57,16 @@ pub fn better(
     }
 }
 
+/// Whether a group's value is below that of the best row so far, so that none of its rows goes before.
+pub fn is_lower(current: u32, best: Option<(usize, Candidate)>) -> bool
+    ensures { result ≡ true → IsSomeAnd best (λ found. current < found.1.value) }
+{
+    match best {
+        None => false,
+        Some((_, found)) => current < found.value,
+    }
+}
+
 /// The best row so far once one group more is looked at.
 pub fn look_at<L: Ledger>(
     groups: &IndexMap<Key, Group>,
@@ -70,7 +80,12 @@ pub fn look_at<L: Ledger>(
     ensures ticks { steps.old + 1 ≤ steps.new }
     ensures most { steps.new ≤ steps.old + 897 }
 {
-    let new = best_of(group_at(groups, i), steps);
+    let group = group_at(groups, i);
+    if is_lower(group.moves.current(), best) {
+        steps.tick();
+        return best;
+    }
+    let new = best_of(group, steps);
     better(groups, i, new, best)
 }
 
