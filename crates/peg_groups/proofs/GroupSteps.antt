@@ -96,7 +96,7 @@ first_differs best event m [] es i key group cap entry a h k = tt
 first_differs best event m (row ∷ rows) es i key group cap entry a h k =
     ((λ e. held_among best event es i key group cap entry row.entry h k (merged_each (λ p. p.row.entry ≡ row.entry → ⊥) m rows (rows_of es) a.0).1 (sym e)), first_differs best event m rows es i key group cap entry a.1 h k)
 
-without_absent : (n entry : ℕ) (rows : List Priced) → IsAbsent n rows → IsAbsent n (without_entry entry rows)
+pub without_absent : (n entry : ℕ) (rows : List Priced) → IsAbsent n rows → IsAbsent n (without_entry entry rows)
 without_absent n entry [] a = tt
 without_absent n entry (row ∷ rows) a =
     elim (Rattle.std.proofs.Common.eqb row.row.entry entry) as (λ v. IsAbsent n (cond v rows (row ∷ without_entry entry rows))) [

@@ -32,7 +32,7 @@ or_turned true false c = refl
 or_turned false true c = refl
 or_turned false false c = refl
 
-has_insert : (key : Key) (p : Priced) (rows : List Priced) → has_key key (insert_by_entry p rows) ≡ (same_key key p.row.key || has_key key rows)
+pub has_insert : (key : Key) (p : Priced) (rows : List Priced) → has_key key (insert_by_entry p rows) ≡ (same_key key p.row.key || has_key key rows)
 has_insert key p [] = refl
 has_insert key p (f ∷ rows) =
     elim (ltb p.row.entry f.row.entry) as (λ v. has_key key (cond v (p ∷ f ∷ rows) (f ∷ insert_by_entry p rows)) ≡ (same_key key p.row.key || (same_key key f.row.key || has_key key rows))) [

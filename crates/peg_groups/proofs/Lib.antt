@@ -1,10 +1,16 @@
 -- Lemmas on sides of a book.
 pub mod BestGroup
 pub mod Counting
+pub mod FlatBest
+pub mod FlatRows
+pub mod FlatSides
+pub mod FlatSteps
 pub mod GroupBest
 pub mod GroupLookup
 pub mod GroupSteps
 pub mod KeyCounts
+pub mod Lists
+pub mod Mapped
 pub mod Merged
 pub mod Paired
 pub mod Pairs

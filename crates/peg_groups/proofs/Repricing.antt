@@ -68,7 +68,7 @@ row_repriced event best key old new row m r early =
           λ i. record { row = row; value = row_value (value_from new.moves.current) row.cap; time = t i }
     ]) refl (m.changes row.cap)))
 
-retime_entry : (event : ℕ) (best : Best) (p : Priced) → (retime event best p).row.entry ≡ p.row.entry
+pub retime_entry : (event : ℕ) (best : Best) (p : Priced) → (retime event best p).row.entry ≡ p.row.entry
 unfolding retime
 retime_entry event best p = elim (option_eq nat_eq (value_under best p.row) p.value) as (λ b. (cond b p (record { row = p.row; value = value_under best p.row; time = event })).row.entry ≡ p.row.entry) [ true ↦ refl | false ↦ refl ]
 

@@ -1,5 +1,5 @@
 -- A side as a flat list of places, of which some are free until the side is tidied.
-use Rattle.std.specs.Prelude.{◌≡◌, ℕ, ◌+◌, ◌<◌, ◌≤◌, Option, Some, None, List, [], ◌∷◌, length, take, Bool, true, false, not, ◌&&◌, is_some, if◌then◌else◌, MatchOption, slice_get, nat_eq}
+use Rattle.std.specs.Prelude.{◌≡◌, ℕ, ◌+◌, ◌<◌, ◌≤◌, Option, Some, None, List, [], ◌∷◌, length, take, Bool, true, false, not, ◌&&◌, is_some, if◌then◌else◌, MatchOption, slice_get, slice_set, nat_eq}
 use Rattle.std.specs.List.{AllByRecursion}
 use Rattle.std.specs.Option.{option_eq}
 use Rattle.std.specs.declared.alloc.Global.{Global}
@@ -12,8 +12,9 @@ use Rattle.venue_words.specs.Rows.{IsAbsent, insert_by_entry}
 use Rattle.venue_words.specs.declared.price.Best.{Best}
 use Rattle.venue_words.specs.declared.row.Key.{Key}
 use Rattle.venue_words.specs.declared.row.Priced.{Priced}
-use Rattle.peg_groups.specs.Side.{SideState, Standing}
+use Rattle.peg_groups.specs.Side.{SideState, Standing, standing_of, taken_row}
 use Rattle.peg_groups.specs.declared.flat.Place.{Place}
+use Rattle.peg_groups.specs.declared.side_book.Taken.{Taken}
 
 -- the row of a place with the place's value and time
 abbrev pub row_with : Box Part Global → Option ℕ → ℕ → Priced
@@ -121,3 +122,29 @@ pub record IsBestPlace (places : List Place) (n i : ℕ) : Type 0 where
 
 abbrev pub BestPlaceUpTo : List Place → ℕ → Option ℕ → Type 0
 BestPlaceUpTo places n found = MatchOption found (AllByRecursion (λ place. place_value place ≡ None) (take n places)) (IsBestPlace places n)
+
+-- the row of a key, a cap and an entry was taken out of its place
+pub record TakesOut (key : Key) (cap entry : ℕ) (node : Box Part Global) (old new : List Place) : Type 0 where
+  pub i : ℕ
+  pub place : Place
+  pub at : slice_get old i ≡ Some place
+  pub there : IsThere key cap entry place
+  pub node_is : place.node ≡ Some node
+  pub left : new ≡ slice_set old i (without_node place)
+
+-- the first active row was taken out of its place
+pub record TakesBest (old new : List Place) (taken : Taken) : Type 0 where
+  pub i : ℕ
+  pub best : IsBestPlace old (length old) i
+  pub node_is : best.place.node ≡ Some taken.node
+  pub value_is : taken.value ≡ best.place.value
+  pub time_is : taken.time ≡ best.place.time
+  pub left : new ≡ slice_set old i (without_node best.place)
+
+-- a row is in a place that kept it
+pub record FillsPlace (taken : Taken) (old new : List Place) : Type 0 where
+  pub i : ℕ
+  pub place : Place
+  pub at : slice_get old i ≡ Some place
+  pub kept : place_standing place ≡ standing_of (taken_row taken)
+  pub left : new ≡ slice_set old i (with_node taken.node place)

@@ -2,6 +2,9 @@
 #![tactic(auto)]
 
 mod first;
+pub mod flat;
+mod flat_best;
+pub mod flat_side;
 pub mod group;
 pub mod group_side;
 mod groups;
@@ -9,5 +12,6 @@ mod pricing;
 mod room;
 pub mod side_book;
 
+pub use flat_side::FlatSide;
 pub use group_side::GroupSide;
 pub use side_book::{SideBook, Taken};
