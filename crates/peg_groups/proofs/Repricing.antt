@@ -1,7 +1,7 @@
 -- A side of groups after a quote, after a reservation and after it was tidied.
 use Rattle.std.proofs.Common.{Ok, Err, ◌≡◌, ◌≢◌, ◌⊎◌, ℕ, zero, suc, ◌+◌, ◌*◌, ◌<◌, ◌≤◌, min, max, not, Bool, true, false, cond, ltb, eqb, List, [], ◌∷◌, ◌++◌, map, filter, length, Option, Some, None, refl, ap, sym, ◌∙◌, subst, arith, inl, inr, slice_get}
 use Rattle.std.proofs.lemmas.Bool.{ne_eqb, eq-eqb, eqb-true, eqb-false, cases_eq}
-use Rattle.venue_words.specs.Conditions.{IsQuote, IsKey}
+use Rattle.venue_words.specs.Conditions.{IsKey}
 use Rattle.venue_words.specs.Peg.{row_value, peg_value, value_under}
 use Rattle.venue_words.specs.Retime.{retime, reprice}
 use Rattle.venue_words.specs.declared.price.Best.{Best}
@@ -132,9 +132,9 @@ moved_group event best was before less key old new m g = record {
 pub groups_repriced : (event : ℕ) (best was : Best) (before : ℕ) (olds news : List (Key × Group)) → before < event → PairedBy (IsMoved event best) olds news → AreGroups was before olds → AreGroups best event news
 groups_repriced event best was before olds news less p a = groups_paired (IsMoved event best) was best before event (λ k o n m. m.tree) (λ k o n m g. moved_group event best was before less k o n m g) olds news p a
 
-pub side_repriced : (side : GroupsView) (event : ℕ) (best : Best) (news : List (Key × Group)) → IsGroupSide side → IsLaterThan (groups_state side) event → IsQuote best → PairedBy (IsMoved event best) side.entries news → IsGroupSide (record { entries = news; best = best; event = event }) × (rows_of news ≡ reprice event best (rows_of side.entries))
-side_repriced side event best news s later quote p = (
-  record { groups = groups_repriced event best side.best side.event side.entries news later.pricing p s.groups; quote = quote },
+pub side_repriced : (side : GroupsView) (event : ℕ) (best : Best) (news : List (Key × Group)) → IsGroupSide side → IsLaterThan (groups_state side) event → PairedBy (IsMoved event best) side.entries news → IsGroupSide (record { entries = news; best = best; event = event }) × (rows_of news ≡ reprice event best (rows_of side.entries))
+side_repriced side event best news s later p = (
+  record { groups = groups_repriced event best side.best side.event side.entries news later.pricing p s.groups },
   rows_repriced event best side.best side.event side.entries news p s.groups (entries_before side.entries event later.times),
 )
 
@@ -264,7 +264,7 @@ side_reserved side key news s keys r = elim r.grown [
   | inr n ↦
       let g = fresh_group side.best side.event n.0 n.2.group (keys n.0 n.1) n.2.fresh in
       rw n.2.left (record {
-        is = record { groups = groups_last side.best side.event r.middle n.0 n.2.group middle.is.groups n.2.is_new g n.2.fresh.tree; quote = s.quote };
+        is = record { groups = groups_last side.best side.event r.middle n.0 n.2.group middle.is.groups n.2.is_new g n.2.fresh.tree };
         rows = rows_last r.middle n.0 n.2.group n.2.fresh.tree ∙ middle.rows;
         fits = λ standing f. fits_kept r.middle _ standing (λ m h. has_last_too standing.key m r.middle _ h) (middle.fits standing f);
         has = λ k h. let x = middle.has k h in (x.0, has_last_too k x.0 r.middle _ x.1);
@@ -278,7 +278,7 @@ side_reserved side key news s keys r = elim r.grown [
 
   middle : IsReserved side r.middle
   middle = record {
-    is = record { groups = groups_paired Roomier side.best side.best side.event side.event (λ k o n m. m.tree) (λ k o n m g. roomier_group side.best side.event k o n m g) side.entries r.middle r.roomier s.groups; quote = s.quote };
+    is = record { groups = groups_paired Roomier side.best side.best side.event side.event (λ k o n m. m.tree) (λ k o n m g. roomier_group side.best side.event k o n m g) side.entries r.middle r.roomier s.groups };
     rows = rows_roomier side.entries r.middle r.roomier;
     fits = λ standing f. fits_roomier side.entries r.middle standing r.roomier f;
     has = λ k h. paired_has Roomier k h.0 side.entries r.middle r.roomier h.1;

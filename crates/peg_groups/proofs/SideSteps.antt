@@ -2,7 +2,6 @@
 use Rattle.std.proofs.Common.{◌≡◌, ◌≢◌, ◌⊎◌, ℕ, zero, suc, ◌<◌, ◌≤◌, min, max, Bool, true, false, cond, ltb, eqb, List, [], ◌∷◌, length, Option, Some, None, refl, ap, sym, ◌∙◌, subst, arith, inl, inr, slice_get, ◌^◌}
 use Rattle.std.proofs.lemmas.Bool.{ne_eqb, eq-eqb}
 use Rattle.indexmap.specs.IndexMap.{set_value_at}
-use Rattle.venue_words.specs.Conditions.{IsQuote}
 use Rattle.venue_words.specs.Peg.{row_value, peg_value, value_under}
 use Rattle.peg_groups.specs.Side.{entered, SideState, Standing, IsLaterThan, IsPlaced, IsHeldAt, NoneAt, IsCut, standing_of, without}
 use Rattle.venue_words.specs.Priority.{before, is_ahead_if_active}
@@ -76,7 +75,7 @@ entered_is best event key group row g same later =
 pub side_enters : (side : GroupsView) (key : Key) (row : Row) (p : Priced) (new : List (Key × Group)) → IsGroupSide side → EntersGroup key row side.entries new → IsAbsent row.entry (rows_of side.entries) → IsRowOf key row → ((group : Group) → HasMoves key group.moves side.entries → IsGroup side.best side.event key group → priced_in group.moves row ≡ p) → IsGroupSide (record { entries = new; best = side.best; event = side.event }) × (rows_of new ≡ insert_by_entry p (rows_of side.entries))
 side_enters side key row p new s e absent is f =
     let put : rows_of new ≡ insert_by_entry (priced_in e.group.moves row) (rows_of side.entries) = ap rows_of e.left ∙ rows_put side.best side.event side.entries e.i key e.group row s.groups e.at absent in (
-      record { groups = rw e.left (groups_put side.best side.event side.entries e.i key e.group row s.groups e.at absent is); quote = s.quote },
+      record { groups = rw e.left (groups_put side.best side.event side.entries e.i key e.group row s.groups e.at absent is) },
       put ∙ ap (λ (q : Priced). insert_by_entry q (rows_of side.entries)) (f e.group (has_found key side.entries e.i e.group e.at) (group_in side.best side.event side.entries e.i key e.group s.groups e.at)),
     )
 
@@ -92,7 +91,7 @@ back_is entries p group best event f only =
 pub side_back : (side : GroupsView) (p : Priced) (new : List (Key × Group)) → IsGroupSide side → EntersGroup p.row.key p.row side.entries new → IsAbsent p.row.entry (rows_of side.entries) → FitsGroup side.entries (standing_of p) → p.row.entry < 2 ^ 32 → IsGroupSide (record { entries = new; best = side.best; event = side.event }) × (rows_of new ≡ insert_by_entry p (rows_of side.entries))
 side_back side p new s e absent f small =
     let put : rows_of new ≡ insert_by_entry (priced_in e.group.moves p.row) (rows_of side.entries) = ap rows_of e.left ∙ rows_put side.best side.event side.entries e.i p.row.key e.group p.row s.groups e.at absent in (
-      record { groups = rw e.left (groups_put side.best side.event side.entries e.i p.row.key e.group p.row s.groups e.at absent (record { key_is = refl; least = f.least; small = small })); quote = s.quote },
+      record { groups = rw e.left (groups_put side.best side.event side.entries e.i p.row.key e.group p.row s.groups e.at absent (record { key_is = refl; least = f.least; small = small })) },
       put ∙ ap (λ (q : Priced). insert_by_entry q (rows_of side.entries)) (back_is side.entries p e.group side.best side.event f (λ m has. only_moves side.best side.event p.row.key m side.entries e.i e.group s.groups has e.at)),
     )
 
@@ -100,7 +99,7 @@ side_back side p new s e absent f small =
 pub side_leaves : (side : GroupsView) (key : Key) (cap entry : ℕ) (row : Row) (new : List (Key × Group)) → IsGroupSide side → LeavesGroup key cap entry row side.entries new → IsGroupSide (record { entries = new; best = side.best; event = side.event }) × (rows_of new ≡ without_entry entry (rows_of side.entries))
 side_leaves side key cap entry row new s e =
     let held = held_of cap entry e.group.tree row e.row_is in (
-      record { groups = rw e.left (groups_cut side.best side.event side.entries e.i key e.group cap entry s.groups e.at held); quote = s.quote },
+      record { groups = rw e.left (groups_cut side.best side.event side.entries e.i key e.group cap entry s.groups e.at held) },
       ap rows_of e.left ∙ rows_cut side.best side.event side.entries e.i key e.group cap entry s.groups e.at held,
     )
 

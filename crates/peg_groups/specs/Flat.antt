@@ -5,7 +5,7 @@ use Rattle.std.specs.Option.{option_eq}
 use Rattle.std.specs.declared.alloc.Global.{Global}
 use Rattle.std.specs.declared.boxed.Box.{Box}
 use Rattle.limit_tree.specs.Part.{Part, IsLeaf}
-use Rattle.venue_words.specs.Conditions.{IsKey, IsQuote}
+use Rattle.venue_words.specs.Conditions.{IsKey}
 use Rattle.venue_words.specs.Peg.{peg_value, row_value}
 use Rattle.venue_words.specs.Priority.{is_ahead_if_active}
 use Rattle.venue_words.specs.Rows.{IsAbsent, insert_by_entry}
@@ -60,7 +60,6 @@ flat_state side = record { rows = rows_in side.places; best = side.best; event =
 
 pub record IsFlat (side : FlatView) : Type 0 where
   pub places : ArePlaces side.places
-  pub quote : IsQuote side.best
 
 -- what a place keeps of its row
 abbrev pub place_standing : Place → Standing

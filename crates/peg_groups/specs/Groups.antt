@@ -1,6 +1,6 @@
 -- A side as groups of rows by key.
 use Rattle.std.specs.Prelude.{◌≡◌, ◌⊎◌, ℕ, zero, suc, ◌+◌, ◌^◌, ◌<◌, ◌≤◌, ◌==◌, min, Bool, true, false, not, Option, Some, None, List, [], ◌∷◌, ◌++◌, length, if◌then◌else◌, slice_get, MatchOption, filter}
-use Rattle.venue_words.specs.Conditions.{IsKey, IsQuote}
+use Rattle.venue_words.specs.Conditions.{IsKey}
 use Rattle.venue_words.specs.Priority.{is_ahead_if_active}
 use Rattle.venue_words.specs.declared.row.Priced.{Priced}
 use Rattle.venue_words.specs.Peg.{row_value, peg_value}
@@ -67,7 +67,6 @@ groups_state side = record { rows = rows_of side.entries; best = side.best; even
 
 pub record IsGroupSide (side : GroupsView) : Type 0 where
   pub groups : AreGroups side.best side.event side.entries
-  pub quote : IsQuote side.best
 
 -- a side that also keeps the number of its rows
 pub record IsCounted (side : GroupsView) (len : ℕ) : Type 0 where

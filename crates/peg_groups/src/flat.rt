@@ -2,7 +2,7 @@
 ghost use Rattle.std.specs.Prelude.{◌≡◌, ◌+◌, ◌<◌, ◌≤◌, ◌&&◌, [], ◌∷◌, ◌++◌, Some, IfSome, MatchOption, length, map, slice_get, slice_set, vec_len};
 ghost use Rattle.std.specs.List.{AllByRecursion, list_any};
 ghost use Rattle.std.specs.Vec.{vec_capacity};
-ghost use Rattle.venue_words.specs.Conditions.{IsKey, IsQuote};
+ghost use Rattle.venue_words.specs.Conditions.{IsKey};
 ghost use Rattle.venue_words.specs.Key.{same_key};
 ghost use Rattle.peg_groups.specs.Flat.{IsThere, is_filled, place_standing, repriced, with_node, without_node};
 ghost use Rattle.peg_groups.specs.Side.{standing_of};
@@ -28,7 +28,7 @@ pub struct Place {
 
 impl Place {
     ghost use Rattle.std.specs.Prelude.{◌≡◌, ◌↔◌, IsTrue};
-    ghost use Rattle.venue_words.specs.Conditions.{IsKey, IsQuote};
+    ghost use Rattle.venue_words.specs.Conditions.{IsKey};
     ghost use Rattle.venue_words.specs.declared.row.Key.{Key};
     ghost use Rattle.peg_groups.specs.Flat.{IsThere, is_filled, place_standing, place_value, repriced};
     ghost use Rattle.peg_groups.specs.Side.{standing_of};
@@ -70,7 +70,6 @@ impl Place {
     /// Prices its row at a quote, where it is there.
     pub fn reprice(&mut self, event: u32, best: Best)
         requires key { IsKey self.old.key }
-        requires best { IsQuote best }
         ensures { self.new ≡ repriced event best self.old }
     {
         if self.node.is_none() {
@@ -167,7 +166,6 @@ pub fn add_place(places: &mut Vec<Place>, place: Place)
 
 fn reprice_in<L: Ledger>(places: &mut [Place], event: u32, best: Best, steps: &mut Steps<L>)
     requires keys { AllByRecursion (λ place. IsKey place.key) places.old }
-    requires best { IsQuote best }
     ensures places { places.new ≡ map (repriced event best) places.old }
     ensures ticks { steps.new ≡ steps.old + length places.old }
 {
@@ -180,7 +178,6 @@ fn reprice_in<L: Ledger>(places: &mut [Place], event: u32, best: Best, steps: &m
 /// Prices the rows of all places at a quote. Each place is a step.
 pub fn reprice_all<L: Ledger>(places: &mut Vec<Place>, event: u32, best: Best, steps: &mut Steps<L>)
     requires keys { AllByRecursion (λ place. IsKey place.key) places.old.items }
-    requires best { IsQuote best }
     ensures items { places.new.items ≡ map (repriced event best) places.old.items }
     ensures len { vec_len places.new ≡ vec_len places.old }
     ensures capacity { vec_capacity places.new ≡ vec_capacity places.old }

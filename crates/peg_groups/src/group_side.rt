@@ -1,7 +1,7 @@
 //! A side that keeps its rows in groups by key, and neither value nor time of a row.
 ghost use Rattle.std.specs.Prelude.{◌≡◌, ◌+◌, ◌-◌, ◌*◌, ◌≤◌, if◌then◌else◌, true, length, IfSome, OnOk, OnErr};
 ghost use Rattle.std.specs.Option.{ForSome};
-ghost use Rattle.venue_words.specs.Conditions.{IsQuote, IsKey};
+ghost use Rattle.venue_words.specs.Conditions.{IsKey};
 ghost use Rattle.peg_groups.specs.Groups.{groups_state, rows_of, ReservesGroups, HasGroup, HaveRoom};
 ghost use Rattle.peg_groups.specs.KeyCount.{key_count};
 
@@ -77,7 +77,6 @@ fn reserve_all(
     key: Option<Key>,
 ) -> Result<(), NoMemory>
     requires key { ForSome key IsKey }
-    requires best { IsQuote best }
     ensures kept { ReservesGroups best key groups.old.entries groups.new.entries }
     ensures has { OnOk result (IfSome key (λ k. HasGroup k groups.new.entries)) }
     ensures room { OnOk result (HaveRoom groups.new.entries) }

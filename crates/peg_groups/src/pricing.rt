@@ -1,7 +1,7 @@
 //! A quote is told to each group.
 ghost use Rattle.std.specs.Prelude.{◌≡◌, ◌+◌, ◌*◌, ◌<◌, ◌≤◌, Some, length, slice_get};
 ghost use Rattle.indexmap.specs.IndexMap.{set_value_at, index_map_len};
-ghost use Rattle.venue_words.specs.Conditions.{IsQuote, IsKey};
+ghost use Rattle.venue_words.specs.Conditions.{IsKey};
 ghost use Rattle.venue_words.specs.declared.row.Key.{Key};
 ghost use Rattle.peg_groups.specs.Group.{value_number};
 ghost use Rattle.peg_groups.specs.Groups.{EachGroup, IsMoved, PairedBy};
@@ -31,7 +31,6 @@ pub fn reprice_at<L: Ledger>(
     best: Best,
     steps: &mut Steps<L>,
 )
-    requires best { IsQuote best }
     requires within { i < index_map_len groups.old }
     requires room { (key : Key) → (group : Group) → slice_get groups.old.entries i ≡ Some (key, group) → IsKey key × (0 < group.moves.room) × (group.moves.latest < event) }
     ensures moved { (key : Key) × (old : Group) × (new : Group) × (slice_get groups.old.entries i ≡ Some (key, old)) × (groups.new.entries ≡ set_value_at groups.old.entries i new) × IsMoved event best key old new }
@@ -51,7 +50,6 @@ pub fn reprice_groups<L: Ledger>(
     best: Best,
     steps: &mut Steps<L>,
 )
-    requires best { IsQuote best }
     requires room { EachGroup (λ key group. IsKey key × (0 < group.moves.room) × (group.moves.latest < event)) groups.old.entries }
     ensures moved { PairedBy (IsMoved event best) groups.old.entries groups.new.entries }
     ensures ticks { steps.old + length groups.old.entries ≤ steps.new }

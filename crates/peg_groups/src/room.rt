@@ -2,7 +2,7 @@
 ghost use Rattle.std.specs.Prelude.{◌≡◌, ◌+◌, ◌<◌, not, ◌⊎◌, Some, OnOk, OnErr, length, slice_get, filter};
 ghost use Rattle.indexmap.specs.IndexMap.{set_value_at, index_map_len};
 ghost use Rattle.limit_tree.specs.Order.{is_empty};
-ghost use Rattle.venue_words.specs.Conditions.{IsQuote, IsKey};
+ghost use Rattle.venue_words.specs.Conditions.{IsKey};
 ghost use Rattle.venue_words.specs.declared.row.Key.{Key};
 ghost use Rattle.peg_groups.specs.Groups.{HasNew, HasGroup, HaveRoom, IsRoomier, PairedBy, is_used};
 ghost use Rattle.peg_groups.specs.declared.group.Group.{Group};
@@ -46,7 +46,6 @@ pub fn reserve_group(
     key: Key,
 ) -> Result<(), NoMemory>
     requires key { IsKey key }
-    requires best { IsQuote best }
     ensures grown { (groups.new.entries ≡ groups.old.entries) ⊎ HasNew best key groups.old.entries groups.new.entries }
     ensures has { OnOk result (HasGroup key groups.new.entries) }
     ensures err { OnErr result (groups.new.entries ≡ groups.old.entries) }

@@ -2,7 +2,7 @@
 ghost use Rattle.std.specs.Prelude.{◌≡◌, ℕ, ◌+◌, ◌*◌, ◌<◌, ◌≤◌, length, IfSome, IsNone, OnOk, OnErr, MatchOption};
 ghost use Rattle.std.specs.Option.{ForSome};
 ghost use Rattle.limit_tree.specs.Part.{IsLeaf};
-ghost use Rattle.venue_words.specs.Conditions.{IsQuote, IsKey, IsRow};
+ghost use Rattle.venue_words.specs.Conditions.{IsKey, IsRow};
 ghost use Rattle.venue_words.specs.FirstRow.{IsFirst, NoneActive};
 ghost use Rattle.venue_words.specs.Retime.{reprice};
 ghost use Rattle.venue_words.specs.Rows.{IsAbsent, IsByEntry};
@@ -158,7 +158,6 @@ pub trait SideBook {
 
     /// Prices every row at a quote; a row whose value differs has the event as time from then on.
     fn reprice<L: Ledger>(&mut self, event: u32, best: Best, steps: &mut Steps<L>)
-        requires best { IsQuote best }
         requires room { move_room self.old }
         requires later { IsLaterThan (state self.old) event }
 

@@ -9,8 +9,8 @@ use Rattle.peg_groups.proofs.group_side.reserve_all.Goals as goal
 pub returns-in_err-reserve_moves-clause-err : goal.returns-in_err-reserve_moves-clause-err
 returns-in_err-reserve_moves-clause-err c = any_err c.from_residual.result (paired_length (λ _ old new. IsRoomier old new) c.args.groups.now.entries c.reserve_moves.new.groups.entries c.reserve_moves.ensures.kept)
 
-pub reserve_group-requires-clause-key : goal.reserve_group-requires-clause-key
-reserve_group-requires-clause-key c = c.requires.key c.in-Some.key c.in-Some.is
+pub reserve_group-requires : goal.reserve_group-requires
+reserve_group-requires c = record { key = c.requires.key c.in-Some.key c.in-Some.is }
 
 pub returns-in-Some-clause-room : goal.returns-in-Some-clause-room
 returns-in-Some-clause-room c = any_ok c.reserve_group.result (room_grown c.args.best c.in-Some.key c.reserve_moves.new.groups.entries c.reserve_group.new.groups.entries c.in_ok-reserve_moves.ensures.room c.reserve_group.ensures.grown)

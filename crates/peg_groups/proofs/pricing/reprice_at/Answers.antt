@@ -1,8 +1,8 @@
 use Rattle.std.proofs.Common.{◌≡◌, refl, sym, ◌∙◌, ap, subst}
 use Rattle.peg_groups.proofs.pricing.reprice_at.Goals as goal
 
-pub peg_value-requires-clause-key : goal.peg_value-requires-clause-key
-peg_value-requires-clause-key g c = (c.requires.room _ _ c.pair_mut-group.ensures.value).0
+pub peg_value-requires : goal.peg_value-requires
+peg_value-requires g c = (c.requires.room _ _ c.pair_mut-group.ensures.value).0.grid
 
 pub push-requires-clause-room : goal.push-requires-clause-room
 push-requires-clause-room g c = (c.requires.room _ _ c.pair_mut-group.ensures.value).1
@@ -19,7 +19,7 @@ returns-clause-moved g c = (
   refl,
   record {
     tree = refl;
-    current = rw (c.push.ensures.current, c.number_of-value.ensures, c.peg_value.ensures.value) refl;
+    current = rw (c.push.ensures.current, c.number_of-value.ensures, c.peg_value.ensures) refl;
     latest = c.push.ensures.latest;
     changes = λ cap. rw c.push.ensures.current (c.push.ensures.changes cap);
   },

@@ -15,7 +15,7 @@ returns-in-Ok-clause-grown c =
       group = record { moves = c.reserve.new.self; tree = c.new-tree.result };
       fresh = record {
         tree = c.new-tree.ensures;
-        current = rw (same, c.start-moves.ensures.current, c.number_of.ensures, c.peg_value.ensures.value) refl;
+        current = rw (same, c.start-moves.ensures.current, c.number_of.ensures, c.peg_value.ensures) refl;
         latest = rw same c.start-moves.ensures.latest;
         changes = λ cap. rw same (c.start-moves.ensures.changes cap);
         room = c.in_ok-reserve.ensures.room;

@@ -20,7 +20,7 @@ found_of rows now best event key cap entry None m = ap (λ (all : List Priced). 
 found_of rows now best event key cap entry (Some node) m = m
 
 pub invariant_of-self : goal.invariant_of-self
-invariant_of-self g c = (record { places = (cut_outcome c.self.inside.places.items c.cut_place.new.places.items c.self.inside.best c.self.inside.event c.args.key c.args.cap c.args.entry c.cut_place.result c.self.invariant.0.places c.cut_place.ensures.cut).are; quote = c.self.invariant.0.quote }, omega (arith, c.self.invariant.1))
+invariant_of-self g c = (record { places = (cut_outcome c.self.inside.places.items c.cut_place.new.places.items c.self.inside.best c.self.inside.event c.args.key c.args.cap c.args.entry c.cut_place.result c.self.invariant.0.places c.cut_place.ensures.cut).are }, omega (arith, c.self.invariant.1))
 
 pub returns-clause-by_entry : goal.returns-clause-by_entry
 returns-clause-by_entry g c = rw (← c.self.view_is) (by_entry_places c.self.inside.places.items c.self.invariant.0.places)

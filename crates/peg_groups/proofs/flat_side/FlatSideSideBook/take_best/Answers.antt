@@ -19,7 +19,7 @@ left_of rows now best event None m = tt
 left_of rows now best event (Some taken) m = ap (λ (all : List Priced). state all best event) m
 
 pub invariant_of-self : goal.invariant_of-self
-invariant_of-self g c = (record { places = (best_outcome c.self.inside.places.items c.take_first.new.places.items c.take_first.result c.self.invariant.0.places c.take_first.ensures.none c.take_first.ensures.first).are; quote = c.self.invariant.0.quote }, omega (arith, c.self.invariant.1))
+invariant_of-self g c = (record { places = (best_outcome c.self.inside.places.items c.take_first.new.places.items c.take_first.result c.self.invariant.0.places c.take_first.ensures.none c.take_first.ensures.first).are }, omega (arith, c.self.invariant.1))
 
 pub returns-clause-by_entry : goal.returns-clause-by_entry
 returns-clause-by_entry g c = rw (← c.self.view_is) (by_entry_places c.self.inside.places.items c.self.invariant.0.places)
