@@ -1,5 +1,5 @@
 -- The rule when a gate is made, and what it says when the gate is closed.
-use Rattle.std.proofs.Common.{◌≡◌, ℕ, ◌+◌, ◌≤◌, ◌≢◌, ⊎_elim, inr, List, [], ◌∷◌, length, sym, refl, ap, ◌∙◌, subst, arith, Option, None, Some}
+use Rattle.std.proofs.Common.{◌≡◌, ℕ, ◌≢◌, ⊎_elim, inr, List, [], ◌∷◌, length, sym, refl, ap, ◌∙◌, subst, arith, Option, None, Some}
 use Rattle.std.specs.List.{sum_by, range_with_len}
 use mathlib.Core.Option as maybe
 use mathlib.Core.Logic.{dite}

@@ -9,7 +9,7 @@ use Rattle.atomic_table.specs.Table.{State, keeps, stepped}
 use Rattle.atomic_table.proofs.Lists.{set_here, set_else}
 use Rattle.venue_words.specs.declared.command.Event.{Event}
 use Rattle.turn_gate.specs.declared.view.SeatView.{SeatView}
-use Rattle.turn_gate.specs.Rule.{whole, AgreesWith, EachNumberOnce, IsHome, IsOut, KeepsOneHistory}
+use Rattle.turn_gate.specs.Rule.{AgreesWith, EachNumberOnce, IsHome, IsOut, KeepsOneHistory}
 use Rattle.turn_gate.proofs.Sums.{sum_set, inside}
 use Rattle.turn_gate.proofs.OneSeat.{each_set, HasOwnTicket, own_as_before, different_set, once_set}
 

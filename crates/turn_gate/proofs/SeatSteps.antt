@@ -1,12 +1,12 @@
 -- Splitting, joining and comparing seats keeps the rule.
-use Rattle.std.proofs.Common.{◌≡◌, ℕ, ◌+◌, ◌<◌, ◌≤◌, ◌≢◌, false, cond, ◌⊎◌, ⊎_elim, inl, inr, List, [], ◌∷◌, ◌++◌, length, set, sym, refl, ap, ◌∙◌, subst, arith, Option, None, Some}
+use Rattle.std.proofs.Common.{◌≡◌, ℕ, ◌+◌, ◌<◌, ◌≤◌, ◌≢◌, false, cond, ⊎_elim, inl, inr, List, [], ◌∷◌, length, set, sym, refl, ap, ◌∙◌, subst, arith, None}
 use Rattle.std.specs.List.{sum_by}
 use Rattle.std.proofs.lemmas.List.Sums.{sum_by_push}
 use mathlib.Core.Option as maybe
 use mathlib.Core.Logic.{dite}
 use native.Mathlib.Decide.{ℕ_discrete, dec_le}
 use lib.ListN.{get_elem?}
-use Rattle.atomic_table.specs.Table.{State, keeps, step, Allows, Splits, Joins}
+use Rattle.atomic_table.specs.Table.{keeps, step, Allows, Splits, Joins}
 use Rattle.atomic_table.proofs.Lists.{set_else, at_snoc, at_longer}
 use Rattle.venue_words.specs.Journals.{StartsWith}
 use Rattle.venue_words.specs.declared.command.Event.{Event}

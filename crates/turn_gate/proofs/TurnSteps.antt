@@ -1,5 +1,5 @@
 -- Each step of a turn keeps the rule.
-use Rattle.std.proofs.Common.{◌≡◌, ℕ, ◌+◌, ◌%◌, ◌^◌, ◌<◌, ◌≤◌, ◌≢◌, Bool, true, false, cond, eqb, eq-eqb, ne_eqb, inl, inr, List, [], ◌∷◌, ◌++◌, length, get_or, set, sym, refl, ap, ◌∙◌, subst, arith, length-append, Option, None, Some}
+use Rattle.std.proofs.Common.{◌≡◌, ℕ, ◌+◌, ◌%◌, ◌^◌, ◌<◌, ◌≤◌, Bool, true, false, cond, eqb, eq-eqb, ne_eqb, inl, inr, List, [], ◌∷◌, ◌++◌, length, get_or, set, sym, refl, ap, ◌∙◌, subst, arith, length-append, Option, None, Some}
 use mathlib.Core.Option as maybe
 use mathlib.Core.Logic.{dite}
 use native.Mathlib.Decide.{ℕ_discrete}
@@ -11,7 +11,7 @@ use Rattle.atomic_table.specs.Table.{keeps, takes, gives, put_back, rest, step, 
 use Rattle.venue_words.specs.Journals.{StartsWith}
 use Rattle.venue_words.specs.declared.command.Event.{Event}
 use Rattle.turn_gate.specs.declared.view.SeatView.{SeatView}
-use Rattle.turn_gate.specs.Rule.{EachNumberOnce, spent_seat}
+use Rattle.turn_gate.specs.Rule.{EachNumberOnce}
 use Rattle.turn_gate.specs.Steps.{SeatAndSlot, with_event, after_turn, journal_held, TakesEmptySlot, DrawsTicket, TakesTurn, RecordsEvent, PassesTurn}
 use Rattle.turn_gate.proofs.Prefixes.{starts_more, starts_whole, starts_length}
 use Rattle.turn_gate.proofs.Merges.{increases_more, increases_push}

@@ -1,5 +1,5 @@
 -- One report of each event, as the journal of this crate's tests makes it.
-use Rattle.std.specs.Prelude.{◌≡◌, ℕ, ◌==◌, List, [], ◌∷◌, ◌++◌, map, filter}
+use Rattle.std.specs.Prelude.{ℕ, ◌==◌, List, [], ◌++◌, map, filter}
 use Rattle.std.proofs.lemmas.List.{map-append}
 use Rattle.venue_words.specs.Journals.{StartsWith}
 use Rattle.venue_words.specs.declared.command.Event.{Event}

@@ -32,7 +32,14 @@ spent_seat = record {
 
 -- the first seat, which has the first turn, and still has to lay the value into the slot
 abbrev pub opening_seat : ℕ → ℕ → SeatView
-opening_seat limit setting = record spent_seat { limit = limit; setting = setting; part = whole; ticket = Some 0; history = Some []; opening = true }
+opening_seat limit setting = record spent_seat {
+  limit = limit;
+  setting = setting;
+  part = whole;
+  ticket = Some 0;
+  history = Some [];
+  opening = true;
+}
 
 -- what is said of one seat: `limit` and `setting` are those of the value, `next` and `serving` the two tickets
 pub record AgreesWith (limit setting next serving : ℕ) (history : List Event) (seat : SeatView) : Type 0 where
@@ -44,14 +51,16 @@ pub record AgreesWith (limit setting next serving : ℕ) (history : List Event) 
   pub seen : StartsWith history seat.seen
   pub told : StartsWith history seat.told
   pub mine : IncreasesWithin 0 (length seat.seen) seat.mine
-  -- its ticket was drawn and not served yet; it has the turn only where its ticket is served, and then knows the history
+  -- its ticket was drawn and not passed yet;
+  -- it has the turn only where its ticket is served, and then knows the history
   pub ticket : (ticket : ℕ) → seat.ticket ≡ Some ticket → (serving ≤ ticket) × (ticket < next)
   pub turn : (known : List Event) → seat.history ≡ Some known → (known ≡ history) × (seat.ticket ≡ Some serving)
 
 -- no two seats have the same ticket
 abbrev pub HaveDifferentTickets : List SeatView → Type 0
 HaveDifferentTickets seats =
-    (i j ticket : ℕ) (seat other : SeatView) → get_elem? seats i ≡ maybe.some seat → get_elem? seats j ≡ maybe.some other
+    (i j ticket : ℕ) (seat other : SeatView)
+    → get_elem? seats i ≡ maybe.some seat → get_elem? seats j ≡ maybe.some other
     → seat.ticket ≡ Some ticket → other.ticket ≡ Some ticket → i ≡ j
 
 -- each number from 1 to `count` is the own number of just one seat, once, and no greater number is one
@@ -76,7 +85,10 @@ module _ {V : Type 0} (journal_of : V → List Event) (limit_of setting_of : V �
     pub setting : setting_of value ≡ setting_of opening_value
 
   -- no seat has the turn, and the value is in its slot
-  pub record IsHome (slots : List (maybe.Option (Option V))) (seats : List SeatView) (history : List Event) : Type 0 where
+  pub record IsHome
+      (slots : List (maybe.Option (Option V)))
+      (seats : List SeatView)
+      (history : List Event) : Type 0 where
     pub value : V
     pub slot : slots ≡ maybe.some (Some value) ∷ []
     pub value_is : IsValueWith history value

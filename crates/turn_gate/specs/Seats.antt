@@ -24,7 +24,13 @@ abbrev pub gate_id : TableId → ℕ → ℕ → GateId
 gate_id table limit setting = record { table = table; limit = limit; setting = setting }
 
 abbrev pub seat_state : TableId → SeatView → SeatState
-seat_state table seat = record { gate = gate_id table seat.limit seat.setting; turns = seat.turns; seen = seat.seen; mine = seat.mine; part = seat.part }
+seat_state table seat = record {
+  gate = gate_id table seat.limit seat.setting;
+  turns = seat.turns;
+  seen = seat.seen;
+  mine = seat.mine;
+  part = seat.part;
+}
 
 -- the one view of a seat
 abbrev pub seat_state_in : TableId → List SeatView → SeatState

@@ -13,7 +13,11 @@ SeatAndSlot V = Me (Option V) SeatView
 
 -- the seat has recorded the last event of the history
 abbrev pub with_event : List Event → SeatView → SeatView
-with_event history seat = record seat { history = Some history; seen = history; mine = seat.mine ++ length history ∷ [] }
+with_event history seat = record seat {
+  history = Some history;
+  seen = history;
+  mine = seat.mine ++ length history ∷ [];
+}
 
 -- the seat has passed the turn, in which the history was this one
 abbrev pub after_turn : List Event → SeatView → SeatView
@@ -27,7 +31,8 @@ module _ {V : Type 0} where
   -- the number found is the seat's ticket where the word held what was expected, and else nothing has changed
   abbrev pub DrawsTicket : Step (Option V) → SeatAndSlot V → ℕ → SeatAndSlot V → Type 0
   DrawsTicket step before found after =
-      (found ≡ step.first → after ≡ (record before.0 { ticket = Some found }, before.1)) × ((¬ (found ≡ step.first)) → after ≡ before)
+      (found ≡ step.first → after ≡ (record before.0 { ticket = Some found }, before.1))
+      × ((¬ (found ≡ step.first)) → after ≡ before)
 
   -- the seat has the turn and the value, whose journal is the history and begins with all that the seat had seen
   pub record HasTurn (journal_of : V → List Event) (limit_of setting_of : V → ℕ) (before after : SeatAndSlot V) : Type 0 where
@@ -39,9 +44,11 @@ module _ {V : Type 0} where
     pub room : length (journal_of value) ≤ limit_of value
 
   -- where the ticket that is served is the seat's own, it has the turn, and else nothing has changed
-  abbrev pub TakesTurn : (V → List Event) → (V → ℕ) → (V → ℕ) → Step (Option V) → SeatAndSlot V → ℕ → SeatAndSlot V → Type 0
+  abbrev pub TakesTurn : (V → List Event) → (V → ℕ) → (V → ℕ)
+      → Step (Option V) → SeatAndSlot V → ℕ → SeatAndSlot V → Type 0
   TakesTurn journal limit setting step before found after =
-      (before.0.ticket ≡ Some found → HasTurn journal limit setting before after) × ((¬ (before.0.ticket ≡ Some found)) → after ≡ before)
+      (before.0.ticket ≡ Some found → HasTurn journal limit setting before after)
+      × ((¬ (before.0.ticket ≡ Some found)) → after ≡ before)
 
   -- the journal of the value that the seat has taken
   abbrev pub journal_held : (V → List Event) → List (ℕ × Option V) → List Event

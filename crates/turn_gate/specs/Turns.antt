@@ -36,7 +36,7 @@ module _ {V : Type 0} where
     pub setting : setting_of value ≡ seat.0.setting
 
   -- the event stands behind a history that begins with what had been seen
-  pub record Records
+  pub record RecordsInTurn
       (step_limit : ℕ → List Event → Event → Option ℕ)
       (before after : SeatAndSlot V)
       (number feed : ℕ) (moment : ℤ) (command : Command)
@@ -50,10 +50,11 @@ module _ {V : Type 0} where
     )
     pub number_is : number ≡ length history + 1
     pub room : number ≤ before.0.limit
-    pub steps : IfSome (step_limit before.0.setting history (event number feed moment command)) (λ most. steps_after ≤ steps_before + most)
+    pub steps : IfSome (step_limit before.0.setting history (event number feed moment command)) (λ most.
+        steps_after ≤ steps_before + most)
 
   -- the history that was found has been seen, and nothing was recorded
-  pub record Refuses
+  pub record RefusesInTurn
       (step_limit : ℕ → List Event → Event → Option ℕ)
       (before after : SeatAndSlot V)
       (refusal : FloorRefusal) (feed : ℕ) (moment : ℤ) (command : Command)
@@ -62,7 +63,8 @@ module _ {V : Type 0} where
     pub seen : StartsWith history before.0.seen
     pub after_is : after ≡ (after_turn history before.0, [])
     pub full : IfFull (λ found. (found ≡ length history) × (found ≡ before.0.limit)) refusal
-    pub steps : CostsNothing (step_limit before.0.setting) history (event (length history + 1) feed moment command) steps_before steps_after
+    pub steps : CostsNothing (step_limit before.0.setting) history
+        (event (length history + 1) feed moment command) steps_before steps_after
 
 module _ {V : Type 0} (journal_of : V → List Event) (limit_of setting_of : V → ℕ) (opening_value : V) where
   -- what the seat with all parts gets back

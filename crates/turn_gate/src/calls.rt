@@ -5,7 +5,7 @@ ghost use Rattle.venue_words.specs.declared.command.Event.{Event};
 ghost use Rattle.turn_gate.specs.Rule.{whole, opening_seat};
 ghost use Rattle.turn_gate.specs.Seats.{IsAtRest};
 ghost use Rattle.turn_gate.specs.Steps.{after_turn};
-ghost use Rattle.turn_gate.specs.Turns.{Records, Refuses, IsGathered};
+ghost use Rattle.turn_gate.specs.Turns.{RecordsInTurn, RefusesInTurn, IsGathered};
 
 use crate::rule::{OneHistory, TakeEmptySlot};
 use crate::turn::{
@@ -24,7 +24,8 @@ pub(crate) fn open<V: Held>(table: &GateTable<V>, seat: &mut TableSeat<V>, value
     requires first { seat.old.me ≡ (opening_seat (V.limit value) (V.setting value), []) }
     requires empty { V.journal value ≡ [] }
     ensures table { (seat.new.table_id ≡ seat.old.table_id) × (seat.new.id ≡ seat.old.id) }
-    ensures passed { seat.new.me ≡ (after_turn [] (record (opening_seat (V.limit value) (V.setting value)) { opening = false }), []) }
+    ensures passed { seat.new.me ≡
+        (after_turn [] (record (opening_seat (V.limit value) (V.setting value)) { opening = false }), []) }
 {
     table.load::<TakeEmptySlot>(seat, SERVING);
     lay(table, seat, value);
@@ -45,8 +46,10 @@ pub(crate) fn submit<V: Held, R: Wait, L: Ledger>(
     requires at_rest { IsAtRest seat.old.me.0 × (seat.old.me.1 ≡ []) }
     requires takes { V.takes seat.old.me.0.setting command ≡ true }
     ensures table { (seat.new.table_id ≡ seat.old.table_id) × (seat.new.id ≡ seat.old.id) }
-    ensures ok { IfOk result (λ number. Records V.step_limit seat.old.me seat.new.me number feed moment command steps.old steps.new) }
-    ensures err { IfErr result (λ refusal. Refuses V.step_limit seat.old.me seat.new.me refusal feed moment command steps.old steps.new) }
+    ensures ok { IfOk result (λ number.
+        RecordsInTurn V.step_limit seat.old.me seat.new.me number feed moment command steps.old steps.new) }
+    ensures err { IfErr result (λ refusal.
+        RefusesInTurn V.step_limit seat.old.me seat.new.me refusal feed moment command steps.old steps.new) }
 {
     let ticket = draw_ticket(rt, table, seat);
     let mut value = take_turn(rt, table, seat, ticket);
@@ -70,8 +73,10 @@ pub(crate) fn look<V: Held, R: Wait>(
     requires table { (seat.old.table_id ≡ table.now.table_id) × (table.now.table_id.words ≡ 3) }
     requires at_rest { IsAtRest seat.old.me.0 × (seat.old.me.1 ≡ []) }
     ensures table { (seat.new.table_id ≡ seat.old.table_id) × (seat.new.id ≡ seat.old.id) }
-    ensures seen { (history : List Event) × StartsWith history seat.old.me.0.seen × (seat.new.me ≡ (after_turn history seat.old.me.0, [])) }
-    ensures reports { IfOk result (λ look. look.reports ≡ reports_of member from (V.reports seat.old.me.0.setting seat.new.me.0.seen)) }
+    ensures seen { (history : List Event) × StartsWith history seat.old.me.0.seen
+        × (seat.new.me ≡ (after_turn history seat.old.me.0, [])) }
+    ensures reports { IfOk result (λ look. look.reports
+        ≡ reports_of member from (V.reports seat.old.me.0.setting seat.new.me.0.seen)) }
     ensures front { IfOk result (λ look. look.front ≡ length (V.reports seat.old.me.0.setting seat.new.me.0.seen)) }
 {
     let ticket = draw_ticket(rt, table, seat);

@@ -35,7 +35,8 @@ impl<V: Held> Model for Gate<V> {
 
     ghost Value = { GateId };
 
-    ghost view = { λ gate. gate_id gate.table.shared.table_id (V.limit gate.table.shared.key) (V.setting gate.table.shared.key) };
+    ghost view = { λ gate.
+        gate_id gate.table.shared.table_id (V.limit gate.table.shared.key) (V.setting gate.table.shared.key) };
 
     ghost invariant = { λ gate. (gate.table.shared.table_id.words ≡ 3) × (gate.table.shared.table_id.slots ≡ 1) };
 }
@@ -172,7 +173,8 @@ impl<V: Held> Gate<V> {
         ensures turns { seat.new.turns ≡ seat.old.turns + 1 }
         ensures seen { StartsWith seat.new.seen seat.old.seen }
         ensures mine { seat.new.mine ≡ seat.old.mine }
-        ensures reports { IfOk result (λ look. look.reports ≡ reports_of member from (V.reports self.now.setting seat.new.seen)) }
+        ensures reports { IfOk result (λ look. look.reports
+            ≡ reports_of member from (V.reports self.now.setting seat.new.seen)) }
         ensures front { IfOk result (λ look. look.front ≡ length (V.reports self.now.setting seat.new.seen)) }
     {
         let badge = mem::replace(&mut seat.badge, Badge::blank());

@@ -78,7 +78,8 @@ fn shares_of(
     ensures gate { OnOk result (seat.new.gate ≡ gate.now) }
     ensures part { OnOk result (seat.new.part + many ≡ seat.old.part) }
     ensures many { IfOk result (λ shares. length shares.items ≡ many) }
-    ensures shares { IfOk result (λ shares. All (λ share. (share.seat.gate ≡ gate.now) × (share.seat.part ≡ 1)) shares.items) }
+    ensures shares { IfOk result (λ shares.
+        All (λ share. (share.seat.gate ≡ gate.now) × (share.seat.part ≡ 1)) shares.items) }
 {
     let mut shares = Vec::new(alloc);
     for i in 0..many {
@@ -131,7 +132,8 @@ fn run<R: Threads + Wait + Sync>(
         || -> Result<Vec<(Seat, u32)>, AllocError>
             requires { All (λ share. (share.seat.gate ≡ gate) × (share.seat.part ≡ 1)) shares.items }
             ensures many { IfOk result (λ others. length others.items ≡ length shares.items) }
-            ensures seats { IfOk result (λ others. All (λ other. (other.0.gate ≡ gate) × (other.0.part ≡ 1)) others.items) }
+            ensures seats { IfOk result (λ others.
+                All (λ other. (other.0.gate ≡ gate) × (other.0.part ≡ 1)) others.items) }
         { submit_shares(rt, &gate, shares, count) },
     );
     let recorded = join_all(&gate, &mut seat, others?);

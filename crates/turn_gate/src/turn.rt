@@ -57,7 +57,11 @@ pub(crate) fn take_turn<V: Held, R: Wait>(
     ticket: u64,
 ) -> V
     requires table { (seat.old.table_id ≡ table.now.table_id) × (table.now.table_id.words ≡ 3) }
-    requires ticket { (seat.old.me.0.ticket ≡ Some ticket) × (seat.old.me.0.history ≡ None) × (seat.old.me.0.opening ≡ false) × (0 < seat.old.me.0.part) × (seat.old.me.1 ≡ []) }
+    requires ticket { seat.old.me.0.ticket ≡ Some ticket }
+    requires no_turn { seat.old.me.0.history ≡ None }
+    requires opened { seat.old.me.0.opening ≡ false }
+    requires part { 0 < seat.old.me.0.part }
+    requires no_slot { seat.old.me.1 ≡ [] }
     ensures table { (seat.new.table_id ≡ seat.old.table_id) × (seat.new.id ≡ seat.old.id) }
     ensures turn { seat.new.me ≡ (record seat.old.me.0 { history = Some (V.journal result) }, (0, None) ∷ []) }
     ensures value { (V.limit result ≡ seat.old.me.0.limit) × (V.setting result ≡ seat.old.me.0.setting) }

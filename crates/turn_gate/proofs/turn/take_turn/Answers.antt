@@ -7,10 +7,10 @@ use Rattle.turn_gate.proofs.turn.take_turn.Goals as goal
 pub load-served-requires : goal.load-served-requires
 load-served-requires g c =
     let same = c.loop.invariant.2 in
-    let r = c.requires.ticket in (
+    let r = c.requires in (
       search rules,
       search rules,
-      takes_turn _ _ _ _ _ _ _ c.args.ticket (ap (λ (m : SeatAndSlot g.row.V.Denot). m.0.ticket) same ∙ r.0) (ap (λ (m : SeatAndSlot g.row.V.Denot). m.0.history) same ∙ r.1)
-          (ap (λ (m : SeatAndSlot g.row.V.Denot). m.0.opening) same ∙ r.2) (ap (λ (m : SeatAndSlot g.row.V.Denot). m.1) same ∙ r.4)
-          (subst (λ (m : SeatAndSlot g.row.V.Denot). 0 < m.0.part) (sym same) r.3),
+      takes_turn _ _ _ _ _ _ _ c.args.ticket (ap (λ (m : SeatAndSlot g.row.V.Denot). m.0.ticket) same ∙ r.ticket) (ap (λ (m : SeatAndSlot g.row.V.Denot). m.0.history) same ∙ r.no_turn)
+          (ap (λ (m : SeatAndSlot g.row.V.Denot). m.0.opening) same ∙ r.opened) (ap (λ (m : SeatAndSlot g.row.V.Denot). m.1) same ∙ r.no_slot)
+          (subst (λ (m : SeatAndSlot g.row.V.Denot). 0 < m.0.part) (sym same) r.part),
     )

@@ -1,5 +1,5 @@
 -- No event is left, and the events from the position on are those that were walked.
-use Rattle.std.proofs.Common.{◌≡◌, ℕ, ◌-◌, ◌<◌, ◌≤◌, ◌++◌, List, [], min, map, take, drop, length, length-drop, refl, sym, ap, ◌∙◌, arith}
+use Rattle.std.proofs.Common.{◌≡◌, ℕ, ◌-◌, ◌≤◌, ◌++◌, List, [], min, take, drop, length, length-drop, refl, sym, ap, ◌∙◌, arith}
 use Rattle.std.specs.Prelude.{◌==◌, filter}
 use Rattle.std.proofs.lemmas.List.{append-nil, drop-map, drop_all, take_all}
 use mathlib.Core.Logic.{dite}
