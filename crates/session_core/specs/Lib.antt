@@ -1,0 +1,16 @@
+pub mod Checks
+pub mod Lookup
+pub mod Tables
+pub mod State
+pub mod Bodies
+pub mod Content
+pub mod Plan
+pub mod Answers
+pub mod Logon
+pub mod Resend
+pub mod Sequence
+pub mod Cases
+pub mod MessageTypes
+pub mod Frames
+pub mod Resent
+pub mod Machine

@@ -1,0 +1,29 @@
+//! The session layer of FIX: what each frame, tick and report makes of a member's session.
+#![tactic(auto)]
+
+mod answers;
+mod bodies;
+mod cases;
+pub mod checks;
+mod content;
+mod frames;
+mod logon;
+pub mod lookup;
+pub mod message;
+pub mod message_types;
+mod plan;
+pub mod reasons;
+mod resend;
+mod resent;
+mod sequence;
+pub mod session;
+pub mod state;
+pub mod tags;
+pub mod turn;
+pub mod tables;
+
+pub use checks::{FailedCheck, Form, Item, first_failed};
+pub use message::{Message, Request};
+pub use session::Session;
+pub use state::{EndCause, Phase, State};
+pub use turn::Turn;
