@@ -14,3 +14,4 @@ pub mod MessageTypes
 pub mod Frames
 pub mod Resent
 pub mod Machine
+pub mod Runs

@@ -41,10 +41,13 @@ pub record Outcome : Type 0 where
 
 -- ---- a plan is carried out
 
+-- the turn that sends these frames
+abbrev pub sending : Machine → List (List ℕ) → Turn
+sending machine frames = record { replies = frames; request = None; ended = cause_of machine.state.phase }
+
 -- nothing happens
 abbrev pub rests : Machine → Outcome
-rests machine =
-    record { machine = machine; turn = record { replies = []; request = None; ended = cause_of machine.state.phase } }
+rests machine = record { machine = machine; turn = sending machine [] }
 
 -- what is kept of what was sent before
 abbrev pub sent_before : Machine → Bool → List (Option Kept)
@@ -114,10 +117,6 @@ on_clock machine moment =
 unfoldable pub on_overlong : Machine → ℤ → Outcome
 on_overlong machine moment =
     if is_over machine.state.phase then rests machine else carried_out machine moment [] (on_too_long machine.state)
-
--- the turn that sends these frames
-abbrev pub sending : Machine → List (List ℕ) → Turn
-sending machine frames = record { replies = frames; request = None; ended = cause_of machine.state.phase }
 
 -- application messages, each kept under its number
 unfoldable pub on_send : Machine → List Message → ℤ → Outcome

@@ -15,6 +15,7 @@ mod plan;
 pub mod reasons;
 mod resend;
 mod resent;
+pub mod runs;
 mod sequence;
 pub mod session;
 pub mod state;
@@ -24,6 +25,7 @@ pub mod tables;
 
 pub use checks::{FailedCheck, Form, Item, first_failed};
 pub use message::{Message, Request};
+pub use runs::Input;
 pub use session::Session;
 pub use state::{EndCause, Phase, State};
 pub use turn::Turn;

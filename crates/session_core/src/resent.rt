@@ -154,7 +154,7 @@ fn part_of(sent: &[Entry], span: Span) -> &[Entry]
 }
 
 /// The frames that are sent again, where something is.
-#[tactic(auto, using(crate::proofs::Runs::frames_of_resent))]
+#[tactic(auto, using(crate::proofs::SentAgain::frames_of_resent))]
 pub fn frames_of_span(
     alloc: Global,
     member: &[u8],

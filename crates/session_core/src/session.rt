@@ -42,7 +42,7 @@ impl Session {
     ghost use Rattle.session_core.specs.Plan.{HandsOutUp};
     ghost use Rattle.session_core.specs.State.{cause_of};
     ghost use Rattle.session_core.specs.Cases.{on_too_long, on_tick};
-    ghost use Rattle.session_core.specs.Machine.{rests, sent_before, replies_of, machine_after, carried_out, plan_for, on_fields, on_frame, on_clock, on_overlong, on_send, on_reject, connected, given_up, fresh, IsUp, IsOver};
+    ghost use Rattle.session_core.specs.Machine.{sending, rests, sent_before, replies_of, machine_after, carried_out, plan_for, on_fields, on_frame, on_clock, on_overlong, on_send, on_reject, connected, given_up, fresh, IsUp, IsOver};
 
     /// The session of a member, closed until a Logon. This takes no memory.
     pub fn new(alloc: Global, member: Bytes) -> Session
@@ -84,15 +84,27 @@ impl Session {
         self.state.phase = Phase::Ended(None);
     }
 
-    /// A turn in which nothing happens.
-    fn quiet(&self) -> Turn
-        ensures { result ≡ (rests self.now).turn }
+    /// The turn that sends these frames.
+    pub(crate) fn sending(&self, frames: Vec<Bytes>) -> Turn
+        ensures { result ≡ sending self.now frames.items }
     {
         Turn {
-            replies: Items(Vec::new(self.alloc)),
+            replies: Items(frames),
             request: None,
             ended: cause_of(self.state.phase),
         }
+    }
+
+    /// A turn in which nothing happens.
+    pub(crate) fn quiet(&self) -> Turn
+        ensures { result ≡ (rests self.now).turn }
+    {
+        self.sending(Vec::new(self.alloc))
+    }
+
+    /// The allocator that it was made with.
+    pub(crate) fn allocator(&self) -> Global {
+        self.alloc
     }
 
     /// All that a plan sends.
