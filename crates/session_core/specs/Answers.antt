@@ -1,6 +1,6 @@
 -- Answers that several cases share.
 use Rattle.std.specs.Prelude.{ℕ, if◌then◌else◌, List, [], ◌∷◌, Option, Some, None, codes}
-use Rattle.session_core.specs.declared.tags.TheConstants.{MESSAGE_TYPE}
+use Rattle.fix_write.specs.declared.tags.TheConstants.{MSG_TYPE}
 use Rattle.session_core.specs.declared.reasons.TheConstants.{WRONG_NAME}
 use Rattle.session_core.specs.declared.checks.FailedCheck.{FailedCheck}
 use Rattle.session_core.specs.declared.message.Incoming.{Incoming}
@@ -24,7 +24,7 @@ drops state cause text = if is_up state then logs_out state cause text else stay
 -- a Reject of the message is sent
 unfoldable pub rejects : State → Incoming → ℕ → ℕ → Plan
 rejects state incoming tag reason =
-    says state (reject incoming.number tag (text_in MESSAGE_TYPE incoming.fields) reason ∷ [])
+    says state (reject incoming.number tag (text_in MSG_TYPE incoming.fields) reason ∷ [])
 
 -- a message that fails a check is rejected, and any other one gets this plan
 abbrev pub unless_failed : State → Incoming → Option FailedCheck → Plan → Plan
@@ -36,6 +36,6 @@ unfoldable pub drops_wrong_name : State → Incoming → ℕ → Plan
 drops_wrong_name state incoming tag =
     if is_up state
     then says (ended WrongName state)
-        (reject incoming.number tag (text_in MESSAGE_TYPE incoming.fields) WRONG_NAME
-        ∷ logout (codes "WRONG NAME") ∷ [])
+    (reject incoming.number tag (text_in MSG_TYPE incoming.fields) WRONG_NAME
+    ∷ logout (codes "WRONG NAME") ∷ [])
     else stays (ended WrongName state)

@@ -1,6 +1,6 @@
 -- What each frame and each tick asks of a session that has not ended. The first case that fits decides.
 use Rattle.std.specs.Prelude.{ℕ, ◌*◌, ◌==◌, Bool, not, ◌&&◌, if◌then◌else◌, List, [], ◌∷◌, Option, Some, None, codes, ℤ, pos, ◌-ℤ◌, int_le, true}
-use Rattle.session_core.specs.declared.tags.TheConstants.{SENDER, TARGET}
+use Rattle.fix_write.specs.declared.tags.TheConstants.{SENDER_COMP_ID, TARGET_COMP_ID}
 use Rattle.session_core.specs.declared.message.Incoming.{Incoming}
 use Rattle.session_core.specs.declared.state.EndCause.TheVariants.{NoNumber, Silent, TooLong}
 use Rattle.session_core.specs.declared.state.State.{State}
@@ -20,8 +20,9 @@ on_no_number state = drops state NoNumber (codes "NO NUMBER")
 -- what a message of a number asks of a member's session, where `sent` is the last number that was sent
 unfoldable pub on_message : List ℕ → ℕ → State → Incoming → Plan
 on_message member sent state incoming =
-    if not (is_value SENDER member incoming.fields) then drops_wrong_name state incoming SENDER
-    else (if not (is_value TARGET (codes "PEGV") incoming.fields) then drops_wrong_name state incoming TARGET
+    if not (is_value SENDER_COMP_ID member incoming.fields) then drops_wrong_name state incoming SENDER_COMP_ID
+    else (if not (is_value TARGET_COMP_ID (codes "PEGV") incoming.fields)
+    then drops_wrong_name state incoming TARGET_COMP_ID
     else (if is_up state then when_up state incoming sent else before_logon state incoming))
 
 -- what a frame that is too long asks
@@ -39,4 +40,5 @@ on_tick moment state =
     else (if has_passed (3000 * state.heartbeat) state.received moment then logs_out state Silent (codes "SILENT")
     else (if not state.test_out && has_passed (2000 * state.heartbeat) state.received moment
     then says (record state { test_out = true }) (test_request ∷ [])
-    else (if has_passed (1000 * state.heartbeat) state.sent_at moment then says state (heartbeat ∷ []) else stays state)))
+    else (if has_passed (1000 * state.heartbeat) state.sent_at moment then says state (heartbeat ∷ [])
+    else stays state)))

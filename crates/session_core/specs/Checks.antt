@@ -5,7 +5,7 @@ use Rattle.std.specs.List.{find, list_any}
 use Rattle.fix_fields.specs.declared.field.Field.{Field}
 use Rattle.fix_fields.specs.Forms.{number_of, amount_of, moment_of}
 use Rattle.session_core.specs.declared.reasons.TheConstants.{TAG_MISSING, TAG_REPEATED, VALUE_MISSING, VALUE_OUT_OF_FORM, VALUE_OUT_OF_RANGE}
-use Rattle.session_core.specs.declared.tags.TheConstants.{MESSAGE_TYPE, NUMBER, SENDER, TARGET}
+use Rattle.fix_write.specs.declared.tags.TheConstants.{MSG_TYPE, MSG_SEQ_NUM, SENDER_COMP_ID, TARGET_COMP_ID}
 use Rattle.session_core.specs.declared.checks.Form.{Form}
 use Rattle.session_core.specs.declared.checks.Form.TheVariants.{Number, Amount, Byte, Moment, Boolean, Text, Identifier}
 use Rattle.session_core.specs.declared.checks.Item.{Item}
@@ -44,7 +44,8 @@ first_missing items fields = tag_of_item (find (λ item. is_none (value_of item.
 -- whether a message of this table reads the tag
 abbrev pub is_read : List Item → List Item → ℕ → Bool
 is_read required optional tag =
-    (tag == NUMBER) || (tag == MESSAGE_TYPE) || (tag == SENDER) || (tag == TARGET) || is_listed tag required || is_listed tag optional
+    (tag == MSG_SEQ_NUM) || (tag == MSG_TYPE) || (tag == SENDER_COMP_ID) || (tag == TARGET_COMP_ID)
+    || is_listed tag required || is_listed tag optional
 
 -- the first field, behind some others, whose tag is read and stood before
 unfoldable pub first_repeated : List Item → List Item → List Field → List Field → Option ℕ

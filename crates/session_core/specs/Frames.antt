@@ -23,5 +23,8 @@ abbrev pub all_kept : ℤ → List Message → List (Option Kept)
 all_kept moment messages = map (kept moment) messages
 
 -- of a message of the session only its number is
+abbrev pub numbers : ℕ → List (Option Kept)
+numbers count = replicate count None
+
 abbrev pub numbers_of : List Message → List (Option Kept)
-numbers_of messages = replicate (length messages) None
+numbers_of messages = numbers (length messages)

@@ -4,7 +4,7 @@ use Rattle.std.specs.List.{find}
 use Rattle.std.specs.Option.{option_map_or}
 use Rattle.fix_fields.specs.declared.field.Field.{Field}
 use Rattle.fix_fields.specs.Forms.{number_of}
-use Rattle.session_core.specs.declared.tags.TheConstants.{MESSAGE_TYPE, NUMBER}
+use Rattle.fix_write.specs.declared.tags.TheConstants.{MSG_TYPE, MSG_SEQ_NUM}
 
 -- the value of the first field of a tag
 unfoldable pub value_of : ℕ → List Field → Option (List ℕ)
@@ -38,7 +38,7 @@ single_byte (byte ∷ other ∷ bytes) = 0
 
 -- the byte of the message's type where it has exactly one, and else 0
 unfoldable pub kind_of : List Field → ℕ
-kind_of fields = option_map_or single_byte (value_of MESSAGE_TYPE fields) 0
+kind_of fields = option_map_or single_byte (value_of MSG_TYPE fields) 0
 
 -- a number that is not 0
 abbrev pub positive : ℕ → Option ℕ
@@ -46,4 +46,4 @@ positive n = if n == 0 then None else Some n
 
 -- the message's number, where it is from 1 to 999,999,999
 unfoldable pub message_number : List Field → Option ℕ
-message_number fields = option_and_then positive (number_in NUMBER fields)
+message_number fields = option_and_then positive (number_in MSG_SEQ_NUM fields)

@@ -15,7 +15,7 @@ use Rattle.session_core.specs.declared.turn.Turn.{Turn}
 use Rattle.session_core.specs.Lookup.{kind_of, message_number}
 use Rattle.session_core.specs.Content.{content_of}
 use Rattle.session_core.specs.State.{heard, is_up, is_over, cause_of}
-use Rattle.session_core.specs.Bodies.{reject}
+use Rattle.session_core.specs.Bodies.{message, reject}
 use Rattle.session_core.specs.Cases.{on_no_number, on_message, on_tick, on_too_long}
 use Rattle.session_core.specs.Frames.{new_frame, new_frames, all_kept, numbers_of}
 use Rattle.session_core.specs.Resent.{frames_of_span}
@@ -109,14 +109,18 @@ on_frame machine frame moment =
     if is_over machine.state.phase then rests machine else on_fields machine moment (split (content_of frame))
 
 -- the clock
+abbrev pub ticks : Machine → ℤ → Outcome
+ticks machine moment = carried_out machine moment [] (on_tick moment machine.state)
+
 unfoldable pub on_clock : Machine → ℤ → Outcome
-on_clock machine moment =
-    if is_up machine.state then carried_out machine moment [] (on_tick moment machine.state) else rests machine
+on_clock machine moment = if is_up machine.state then ticks machine moment else rests machine
 
 -- a frame that is too long
+abbrev pub ends_too_long : Machine → ℤ → Outcome
+ends_too_long machine moment = carried_out machine moment [] (on_too_long machine.state)
+
 unfoldable pub on_overlong : Machine → ℤ → Outcome
-on_overlong machine moment =
-    if is_over machine.state.phase then rests machine else carried_out machine moment [] (on_too_long machine.state)
+on_overlong machine moment = if is_over machine.state.phase then rests machine else ends_too_long machine moment
 
 -- application messages, each kept under its number
 unfoldable pub on_send : Machine → List Message → ℤ → Outcome
@@ -131,6 +135,9 @@ on_send machine messages moment =
           };
       turn = sending machine frames;
     }
+
+abbrev pub on_send_one : Machine → ℕ → List ℕ → ℤ → Outcome
+on_send_one machine kind body moment = on_send machine (message kind body ∷ []) moment
 
 -- a Reject that is asked for from outside
 unfoldable pub on_reject : Machine → ℕ → ℕ → ℕ → ℕ → ℤ → Outcome

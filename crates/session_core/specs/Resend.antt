@@ -1,6 +1,6 @@
 -- What a ResendRequest asks.
 use Rattle.std.specs.Prelude.{ℕ, ◌==◌, not, ◌&&◌, ◌||◌, nat_lt, if◌then◌else◌, [], ◌∷◌, ◌++◌}
-use Rattle.session_core.specs.declared.tags.TheConstants.{FIRST_NUMBER, LAST_NUMBER}
+use Rattle.session_core.specs.declared.tags.TheConstants.{BEGIN_SEQ_NO, END_SEQ_NO}
 use Rattle.session_core.specs.declared.reasons.TheConstants.{VALUE_OUT_OF_RANGE}
 use Rattle.session_core.specs.declared.message.Incoming.{Incoming}
 use Rattle.session_core.specs.declared.state.State.{State}
@@ -18,16 +18,16 @@ last_of asked sent = if (asked.last == 0) || nat_lt sent asked.last then sent el
 -- messages are sent again from a first number to a last one, where `sent` is the last number that was sent
 unfoldable pub resends : State → Incoming → ℕ → Span → Plan
 resends state incoming sent asked =
-    if (asked.first == 0) || nat_lt sent asked.first then rejects state incoming FIRST_NUMBER VALUE_OUT_OF_RANGE
+    if (asked.first == 0) || nat_lt sent asked.first then rejects state incoming BEGIN_SEQ_NO VALUE_OUT_OF_RANGE
     else (if not (asked.last == 0) && nat_lt asked.last asked.first
-    then rejects state incoming LAST_NUMBER VALUE_OUT_OF_RANGE
+    then rejects state incoming END_SEQ_NO VALUE_OUT_OF_RANGE
     else sends_again state (record { first = asked.first; last = last_of asked sent }))
 
 -- what a ResendRequest that passes the checks asks
 unfoldable pub on_resend_request : State → Incoming → ℕ → Plan
 on_resend_request state incoming sent =
     resends state incoming sent
-    (record { first = number_or_zero FIRST_NUMBER incoming.fields; last = number_or_zero LAST_NUMBER incoming.fields })
+    (record { first = number_or_zero BEGIN_SEQ_NO incoming.fields; last = number_or_zero END_SEQ_NO incoming.fields })
 
 -- the plan, and a ResendRequest behind all that it sends
 abbrev pub then_asks_again : Plan → ℕ → Plan

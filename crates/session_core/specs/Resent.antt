@@ -72,4 +72,5 @@ run_behind run number (Some kept) = None
 unfoldable pub frames_from : List ℕ → ℤ → Option ℕ → ℕ → List (Option Kept) → List (List ℕ)
 frames_from member moment run number [] = gap_before member moment run number
 frames_from member moment run number (entry ∷ entries) =
-    frames_at member moment run number entry ++ frames_from member moment (run_behind run number entry) (number + 1) entries
+    frames_at member moment run number entry
+    ++ frames_from member moment (run_behind run number entry) (number + 1) entries

@@ -1,29 +1,30 @@
 -- The machine over whole lists of inputs.
-use Rattle.std.specs.Prelude.{◌≡◌, ◌≤◌, ℕ, Bool, true, false, not, if◌then◌else◌, List, [], ◌∷◌, length, Result, Ok, Err, IsTrue}
-use Rattle.std.specs.List.{AllByRecursion}
+use Rattle.std.specs.Prelude.{◌≡◌, ◌≤◌, ℕ, not, if◌then◌else◌, List, [], ◌∷◌, length, Result, Ok, Err, IsTrue, ℤ}
 use Rattle.venue_words.specs.declared.refusal.NoMemory.{NoMemory}
+use Rattle.fix_fields.specs.declared.field.TheConstants.{LONGEST_FRAME}
+use Rattle.session_core.specs.declared.message.Message.{Message}
 use Rattle.session_core.specs.declared.runs.Input.{Input}
 use Rattle.session_core.specs.declared.runs.Input.TheVariants.{Connection, Frame, TooLong, Tick, Send, Reject}
 use Rattle.session_core.specs.declared.turn.Turn.{Turn}
 use Rattle.session_core.specs.State.{is_up, is_over}
-use Rattle.session_core.specs.Machine.{Machine, Outcome, IsOver, rests, connected, given_up, on_frame, on_overlong, on_clock, on_send, on_reject}
+use Rattle.session_core.specs.Machine.{Machine, Outcome, rests, connected, given_up, on_frame, on_overlong, on_clock, on_send, on_reject}
 
 -- a frame is not too long
 abbrev pub IsShort : Input → Type 0
 IsShort Connection = Unit {0}
-IsShort (Frame frame moment) = length frame ≤ 8192
+IsShort (Frame frame moment) = length frame ≤ LONGEST_FRAME
 IsShort (TooLong moment) = Unit {0}
 IsShort (Tick moment) = Unit {0}
 IsShort (Send messages moment) = Unit {0}
 IsShort (Reject number kind tag reason moment) = Unit {0}
 
-abbrev pub is_connection : Input → Bool
-is_connection Connection = true
-is_connection (Frame frame moment) = false
-is_connection (TooLong moment) = false
-is_connection (Tick moment) = false
-is_connection (Send messages moment) = false
-is_connection (Reject number kind tag reason moment) = false
+-- a session that is not up passes over what is to be sent
+abbrev pub send_if_up : Machine → List Message → ℤ → Outcome
+send_if_up machine messages moment = if is_up machine.state then on_send machine messages moment else rests machine
+
+abbrev pub reject_if_up : Machine → ℕ → ℕ → ℕ → ℕ → ℤ → Outcome
+reject_if_up machine number kind tag reason moment =
+    if is_up machine.state then on_reject machine number kind tag reason moment else rests machine
 
 -- what an input gives
 abbrev pub outcome_of : Machine → Input → Outcome
@@ -31,10 +32,8 @@ outcome_of machine Connection = rests (connected machine)
 outcome_of machine (Frame frame moment) = on_frame machine frame moment
 outcome_of machine (TooLong moment) = on_overlong machine moment
 outcome_of machine (Tick moment) = on_clock machine moment
-outcome_of machine (Send messages moment) =
-    if is_up machine.state then on_send machine messages moment else rests machine
-outcome_of machine (Reject number kind tag reason moment) =
-    if is_up machine.state then on_reject machine number kind tag reason moment else rests machine
+outcome_of machine (Send messages moment) = send_if_up machine messages moment
+outcome_of machine (Reject number kind tag reason moment) = reject_if_up machine number kind tag reason moment
 
 -- the session after an input for which memory was wanted: what was received ends the connection, and what was to be
 -- sent changes nothing
@@ -63,11 +62,3 @@ Follows machine [] (answer ∷ answers) last = ⊥
 Follows machine (input ∷ inputs) [] last = ⊥
 Follows machine (input ∷ inputs) (answer ∷ answers) last =
     Answers machine input answer × Follows (machine_behind machine input answer) inputs answers last
-
--- a session that is over stays as it is until a new connection: to every input it answers that it sends nothing, hands
--- nothing out, and ended by the same cause
-abbrev pub EndedStays : Type 0
-EndedStays =
-    (machine : Machine) (inputs : List Input) (answers : List (Result Turn NoMemory)) (last : Machine) →
-    IsOver machine → AllByRecursion (λ input. is_connection input ≡ false) inputs → Follows machine inputs answers last →
-    (last ≡ machine) × AllByRecursion (λ answer. answer ≡ Ok (rests machine).turn) answers

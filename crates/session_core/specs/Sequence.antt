@@ -1,7 +1,8 @@
 -- What a message asks of a session that is up, by its number and its type.
 use Rattle.std.specs.Prelude.{ℕ, ◌+◌, ◌==◌, not, ◌&&◌, ◌||◌, nat_lt, nat_le, if◌then◌else◌, [], ◌∷◌, None, is_none, codes}
 use Rattle.session_core.specs.declared.message_types.TheConstants.{HEARTBEAT, TEST_REQUEST, RESEND_REQUEST, REJECT, SEQUENCE_RESET, LOGOUT, LOGON}
-use Rattle.session_core.specs.declared.tags.TheConstants.{MESSAGE_TYPE, POSSIBLE_DUPLICATE, NEW_NUMBER, TEST_REQUEST_ID, GAP_FILL}
+use Rattle.fix_write.specs.declared.tags.TheConstants.{MSG_TYPE, POSS_DUP_FLAG}
+use Rattle.session_core.specs.declared.tags.TheConstants.{NEW_SEQ_NO, TEST_REQ_ID, GAP_FILL_FLAG}
 use Rattle.session_core.specs.declared.reasons.TheConstants.{VALUE_OUT_OF_RANGE, WRONG_TYPE}
 use Rattle.session_core.specs.declared.message.Incoming.{Incoming}
 use Rattle.session_core.specs.declared.state.EndCause.TheVariants.{Logout, TooLow}
@@ -18,9 +19,9 @@ use Rattle.session_core.specs.Resend.{on_resend_request, then_asks_again}
 -- a SequenceReset sets the next number, where it is not below the least that it may be
 unfoldable pub sets_next : State → Incoming → ℕ → Plan
 sets_next state incoming least =
-    if nat_le least (number_or_zero NEW_NUMBER incoming.fields)
-    then stays (record state { next_in = number_or_zero NEW_NUMBER incoming.fields })
-    else rejects state incoming NEW_NUMBER VALUE_OUT_OF_RANGE
+    if nat_le least (number_or_zero NEW_SEQ_NO incoming.fields)
+    then stays (record state { next_in = number_or_zero NEW_SEQ_NO incoming.fields })
+    else rejects state incoming NEW_SEQ_NO VALUE_OUT_OF_RANGE
 
 -- a SequenceReset that is no gap fill, whatever its number
 unfoldable pub on_reset : State → Incoming → Plan
@@ -35,7 +36,7 @@ on_logout state incoming =
 -- a number that came before
 unfoldable pub too_low : State → Incoming → Plan
 too_low state incoming =
-    if is_yes POSSIBLE_DUPLICATE incoming.fields then stays state else logs_out state TooLow (codes "TOO LOW")
+    if is_yes POSS_DUP_FLAG incoming.fields then stays state else logs_out state TooLow (codes "TOO LOW")
 
 -- a number that came too early: the message is not kept, and is asked for again
 unfoldable pub too_early : State → Incoming → ℕ → Plan
@@ -47,7 +48,7 @@ too_early state incoming sent =
 
 -- a TestRequest is answered by a Heartbeat with its identifier
 unfoldable pub answers_test : State → Incoming → Plan
-answers_test state incoming = says state (test_answer (text_in TEST_REQUEST_ID incoming.fields) ∷ [])
+answers_test state incoming = says state (test_answer (text_in TEST_REQ_ID incoming.fields) ∷ [])
 
 -- a message that passes the checks, by its type
 unfoldable pub by_type : State → Incoming → ℕ → Plan
@@ -57,7 +58,7 @@ by_type state incoming sent =
     else (if incoming.kind == RESEND_REQUEST then on_resend_request state incoming sent
     else (if incoming.kind == SEQUENCE_RESET then sets_next state incoming (incoming.number + 1)
     else (if incoming.kind == LOGOUT then logs_out state Logout []
-    else (if incoming.kind == LOGON then rejects state incoming MESSAGE_TYPE WRONG_TYPE
+    else (if incoming.kind == LOGON then rejects state incoming MSG_TYPE WRONG_TYPE
     else hands_out state incoming None)))))
 
 -- the message that was to come
@@ -76,5 +77,5 @@ by_number state incoming sent =
 -- what a message asks of a session that is up, where `sent` is the last number that was sent
 unfoldable pub when_up : State → Incoming → ℕ → Plan
 when_up state incoming sent =
-    if (incoming.kind == SEQUENCE_RESET) && not (is_yes GAP_FILL incoming.fields) then on_reset state incoming
+    if (incoming.kind == SEQUENCE_RESET) && not (is_yes GAP_FILL_FLAG incoming.fields) then on_reset state incoming
     else by_number state incoming sent

@@ -8,7 +8,7 @@ use crate::message::Incoming;
 use crate::plan::{Plan, says, stays};
 use crate::reasons::WRONG_NAME;
 use crate::state::{EndCause, State, ended, is_up};
-use crate::tags::MESSAGE_TYPE;
+use crate::tags::MSG_TYPE;
 use std::alloc::Global;
 use venue_words::NoMemory;
 
@@ -47,7 +47,7 @@ pub fn rejects(
     ensures plan { IfOk result (λ p. p ≡ rejects state incoming.now tag reason) }
     ensures quiet { IfOk result (λ p. p.request ≡ None) }
 {
-    let kind = text_in(MESSAGE_TYPE, incoming.fields.as_slice());
+    let kind = text_in(MSG_TYPE, incoming.fields.as_slice());
     let message = reject(alloc, incoming.number, tag, kind, reason)?;
     Ok(says(state, vec![in alloc; message]?))
 }
@@ -67,7 +67,7 @@ pub fn drops_wrong_name(
     if !is_up(state) {
         return Ok(stays(alloc, state_after));
     }
-    let kind = text_in(MESSAGE_TYPE, incoming.fields.as_slice());
+    let kind = text_in(MSG_TYPE, incoming.fields.as_slice());
     let rejection = reject(alloc, incoming.number, tag, kind, WRONG_NAME)?;
     let farewell = logout(alloc, b"WRONG NAME")?;
     Ok(says(state_after, vec![in alloc; rejection, farewell]?))

@@ -5,11 +5,11 @@ ghost use Rattle.session_core.specs.Bodies.{logon, heartbeat, test_answer, test_
 use crate::message::Message;
 use crate::message_types::{HEARTBEAT, LOGON, LOGOUT, REJECT, RESEND_REQUEST, TEST_REQUEST};
 use crate::tags::{
-    APPLICATION_VERSION, ENCRYPTION, FIRST_NUMBER, GAP_FILL, HEARTBEAT_INTERVAL, LAST_NUMBER,
-    NEW_NUMBER, REASON, REJECTED_NUMBER, REJECTED_TAG, REJECTED_TYPE, RESET_NUMBERS,
-    TEST_REQUEST_ID, TEXT,
+    BEGIN_SEQ_NO, DEFAULT_APPL_VER_ID, ENCRYPT_METHOD, END_SEQ_NO, GAP_FILL_FLAG, HEART_BT_INT,
+    NEW_SEQ_NO, REF_MSG_TYPE, REF_SEQ_NUM, REF_TAG_ID, RESET_SEQ_NUM_FLAG, SESSION_REJECT_REASON,
+    TEST_REQ_ID, TEXT,
 };
-use fix_write::fields::{push_field, push_number_field};
+use fix_write::{push_field, push_number_field};
 use std::alloc::Global;
 use venue_words::{Bytes, NoMemory};
 
@@ -19,11 +19,11 @@ pub fn logon(alloc: Global, interval: &[u8], reset: bool) -> Result<Message, NoM
     ensures { IfOk result (λ m. m ≡ logon interval.now reset) }
 {
     let mut out = Vec::new(alloc);
-    push_field(&mut out, ENCRYPTION, b"0")?;
-    push_field(&mut out, HEARTBEAT_INTERVAL, interval)?;
-    push_field(&mut out, APPLICATION_VERSION, b"9")?;
+    push_field(&mut out, ENCRYPT_METHOD, b"0")?;
+    push_field(&mut out, HEART_BT_INT, interval)?;
+    push_field(&mut out, DEFAULT_APPL_VER_ID, b"9")?;
     if reset {
-        push_field(&mut out, RESET_NUMBERS, b"Y")?;
+        push_field(&mut out, RESET_SEQ_NUM_FLAG, b"Y")?;
     }
     Ok(Message {
         kind: LOGON,
@@ -48,7 +48,7 @@ pub fn test_answer(alloc: Global, id: &[u8]) -> Result<Message, NoMemory>
     ensures { IfOk result (λ m. m ≡ test_answer id.now) }
 {
     let mut out = Vec::new(alloc);
-    push_field(&mut out, TEST_REQUEST_ID, id)?;
+    push_field(&mut out, TEST_REQ_ID, id)?;
     Ok(Message {
         kind: HEARTBEAT,
         body: Bytes(out),
@@ -61,7 +61,7 @@ pub fn test_request(alloc: Global) -> Result<Message, NoMemory>
     ensures { IfOk result (λ m. m ≡ test_request) }
 {
     let mut out = Vec::new(alloc);
-    push_field(&mut out, TEST_REQUEST_ID, b"T")?;
+    push_field(&mut out, TEST_REQ_ID, b"T")?;
     Ok(Message {
         kind: TEST_REQUEST,
         body: Bytes(out),
@@ -74,8 +74,8 @@ pub fn resend_request(alloc: Global, first: u32) -> Result<Message, NoMemory>
     ensures { IfOk result (λ m. m ≡ resend_request first) }
 {
     let mut out = Vec::new(alloc);
-    push_number_field(&mut out, FIRST_NUMBER, u64::from(first))?;
-    push_field(&mut out, LAST_NUMBER, b"0")?;
+    push_number_field(&mut out, BEGIN_SEQ_NO, u64::from(first))?;
+    push_field(&mut out, END_SEQ_NO, b"0")?;
     Ok(Message {
         kind: RESEND_REQUEST,
         body: Bytes(out),
@@ -109,10 +109,10 @@ pub fn reject(
     ensures { IfOk result (λ m. m ≡ reject number tag kind.now reason) }
 {
     let mut out = Vec::new(alloc);
-    push_number_field(&mut out, REJECTED_NUMBER, u64::from(number))?;
-    push_number_field(&mut out, REJECTED_TAG, u64::from(tag))?;
-    push_field(&mut out, REJECTED_TYPE, kind)?;
-    push_number_field(&mut out, REASON, u64::from(reason))?;
+    push_number_field(&mut out, REF_SEQ_NUM, u64::from(number))?;
+    push_number_field(&mut out, REF_TAG_ID, u64::from(tag))?;
+    push_field(&mut out, REF_MSG_TYPE, kind)?;
+    push_number_field(&mut out, SESSION_REJECT_REASON, u64::from(reason))?;
     Ok(Message {
         kind: REJECT,
         body: Bytes(out),
@@ -125,7 +125,7 @@ pub fn gap_body(alloc: Global, next: u64) -> Result<Vec<u8>, NoMemory>
     ensures { IfOk result (λ body. body.items ≡ gap_body next) }
 {
     let mut out = Vec::new(alloc);
-    push_field(&mut out, GAP_FILL, b"Y")?;
-    push_number_field(&mut out, NEW_NUMBER, next)?;
+    push_field(&mut out, GAP_FILL_FLAG, b"Y")?;
+    push_number_field(&mut out, NEW_SEQ_NO, next)?;
     Ok(out)
 }

@@ -11,7 +11,7 @@ use crate::message::Incoming;
 use crate::plan::{Plan, says, stays};
 use crate::sequence::when_up;
 use crate::state::{EndCause, State, is_up};
-use crate::tags::{SENDER, TARGET};
+use crate::tags::{SENDER_COMP_ID, TARGET_COMP_ID};
 use std::alloc::Global;
 use venue_words::NoMemory;
 
@@ -29,11 +29,11 @@ pub fn on_message(
     ensures up { IfOk result HandsOutUp }
 {
     let fields = incoming.fields.as_slice();
-    if !is_value(SENDER, member, fields) {
-        return drops_wrong_name(alloc, state, incoming, SENDER);
+    if !is_value(SENDER_COMP_ID, member, fields) {
+        return drops_wrong_name(alloc, state, incoming, SENDER_COMP_ID);
     }
-    if !is_value(TARGET, b"PEGV", fields) {
-        return drops_wrong_name(alloc, state, incoming, TARGET);
+    if !is_value(TARGET_COMP_ID, b"PEGV", fields) {
+        return drops_wrong_name(alloc, state, incoming, TARGET_COMP_ID);
     }
     if is_up(state) {
         when_up(alloc, state, incoming, sent)

@@ -6,7 +6,7 @@ use crate::lookup::value_of;
 use crate::reasons::{
     TAG_MISSING, TAG_REPEATED, VALUE_MISSING, VALUE_OUT_OF_FORM, VALUE_OUT_OF_RANGE,
 };
-use crate::tags::{MESSAGE_TYPE, NUMBER, SENDER, TARGET};
+use crate::tags::{MSG_SEQ_NUM, MSG_TYPE, SENDER_COMP_ID, TARGET_COMP_ID};
 use fix_fields::{Field, amount, moment, number};
 
 /// How the value of a tag may look.
@@ -92,10 +92,10 @@ fn first_missing(items: &[Item], fields: &[Field]) -> Option<u32>
 fn is_read(required: &[Item], optional: &[Item], tag: u32) -> bool
     ensures { result ≡ is_read required.now optional.now tag }
 {
-    tag == NUMBER
-        || tag == MESSAGE_TYPE
-        || tag == SENDER
-        || tag == TARGET
+    tag == MSG_SEQ_NUM
+        || tag == MSG_TYPE
+        || tag == SENDER_COMP_ID
+        || tag == TARGET_COMP_ID
         || is_listed(tag, required)
         || is_listed(tag, optional)
 }
@@ -156,28 +156,47 @@ fn first_long(items: &[Item], fields: &[Field]) -> Option<u32>
 }
 
 /// The first check that a message fails, over the tags that it must have and may have, those of every message first:
-/// an empty value, a read tag that stands twice, a missing tag, a value outside its form, an identifier that is too long.
+/// an empty value, a read tag that stands twice, a missing tag, a value outside its form, an identifier of more than
+/// 64 bytes.
 #[tactic(auto, unfolding(crate::specs::Checks::first_failed))]
 pub fn first_failed(required: &[Item], optional: &[Item], fields: &[Field]) -> Option<FailedCheck>
     ensures { result ≡ first_failed required.now optional.now fields.now }
 {
     if let Some(tag) = first_empty(fields) {
-        return Some(FailedCheck { reason: VALUE_MISSING, tag });
+        return Some(FailedCheck {
+            reason: VALUE_MISSING,
+            tag,
+        });
     }
     if let Some(tag) = first_repeated(required, optional, fields) {
-        return Some(FailedCheck { reason: TAG_REPEATED, tag });
+        return Some(FailedCheck {
+            reason: TAG_REPEATED,
+            tag,
+        });
     }
     if let Some(tag) = first_missing(required, fields) {
-        return Some(FailedCheck { reason: TAG_MISSING, tag });
+        return Some(FailedCheck {
+            reason: TAG_MISSING,
+            tag,
+        });
     }
     if let Some(tag) = first_outside(required, fields) {
-        return Some(FailedCheck { reason: VALUE_OUT_OF_FORM, tag });
+        return Some(FailedCheck {
+            reason: VALUE_OUT_OF_FORM,
+            tag,
+        });
     }
     if let Some(tag) = first_outside(optional, fields) {
-        return Some(FailedCheck { reason: VALUE_OUT_OF_FORM, tag });
+        return Some(FailedCheck {
+            reason: VALUE_OUT_OF_FORM,
+            tag,
+        });
     }
     match first_long(required, fields) {
-        Some(tag) => Some(FailedCheck { reason: VALUE_OUT_OF_RANGE, tag }),
+        Some(tag) => Some(FailedCheck {
+            reason: VALUE_OUT_OF_RANGE,
+            tag,
+        }),
         None => None,
     }
 }

@@ -1,7 +1,6 @@
 //! The frames of messages with new numbers, and what is kept of these.
-ghost use Rattle.std.specs.Prelude.{◌≡◌, ◌<◌, ◌+◌, ◌^◌, ◌++◌, IfOk, OnOk, OnErr, length, replicate, None, Option};
-ghost use Rattle.session_core.specs.declared.message.Kept.{Kept};
-ghost use Rattle.session_core.specs.Frames.{new_frame, new_frames, all_kept};
+ghost use Rattle.std.specs.Prelude.{◌≡◌, ◌<◌, ◌+◌, ◌^◌, ◌++◌, IfOk, OnOk, OnErr, length};
+ghost use Rattle.session_core.specs.Frames.{new_frame, new_frames, all_kept, numbers};
 
 use crate::message::{Entry, Message};
 use fix_write::{Head, frame};
@@ -53,7 +52,7 @@ pub fn push_new_frames(
 
 /// Keeps the numbers of so many messages of the session. Nothing changes where memory is wanted.
 pub fn push_numbers(sent: &mut Vec<Entry>, count: usize) -> Result<(), NoMemory>
-    ensures ok { OnOk result (sent.new.items ≡ sent.old.items ++ replicate count (let none : Option Kept = None in none)) }
+    ensures ok { OnOk result (sent.new.items ≡ sent.old.items ++ numbers count) }
     ensures err { OnErr result (sent.new.items ≡ sent.old.items) }
 {
     sent.reserve(count)?;
@@ -64,11 +63,7 @@ pub fn push_numbers(sent: &mut Vec<Entry>, count: usize) -> Result<(), NoMemory>
 }
 
 /// What is kept of application messages.
-pub fn entries_of(
-    alloc: Global,
-    moment: i64,
-    messages: &[Message],
-) -> Result<Vec<Entry>, NoMemory>
+pub fn entries_of(alloc: Global, moment: i64, messages: &[Message]) -> Result<Vec<Entry>, NoMemory>
     ensures { IfOk result (λ entries. entries.items ≡ all_kept moment messages.now) }
 {
     let mut entries = Vec::with_capacity(alloc, messages.len())?;

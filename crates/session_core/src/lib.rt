@@ -7,6 +7,7 @@ mod cases;
 pub mod checks;
 mod content;
 mod frames;
+pub mod laws;
 mod logon;
 pub mod lookup;
 pub mod message;
@@ -19,9 +20,9 @@ pub mod runs;
 mod sequence;
 pub mod session;
 pub mod state;
+pub mod tables;
 pub mod tags;
 pub mod turn;
-pub mod tables;
 
 pub use checks::{FailedCheck, Form, Item, first_failed};
 pub use message::{Message, Request};

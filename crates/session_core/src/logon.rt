@@ -12,16 +12,16 @@ use crate::message_types::LOGON;
 use crate::plan::{Plan, says, stays};
 use crate::state::{EndCause, Phase, State, ended};
 use crate::tables::failed_of;
-use crate::tags::{APPLICATION_VERSION, ENCRYPTION, HEARTBEAT_INTERVAL, RESET_NUMBERS};
+use crate::tags::{DEFAULT_APPL_VER_ID, ENCRYPT_METHOD, HEART_BT_INT, RESET_SEQ_NUM_FLAG};
 use fix_fields::Field;
 use std::alloc::Global;
 use venue_words::NoMemory;
 
 /// Whether EncryptMethod(98) is there and is 0.
 fn is_unencrypted(fields: &[Field]) -> bool
-    ensures { result ≡ option_map_or (λ n. n == 0) (number_in ENCRYPTION fields.now) false }
+    ensures { result ≡ option_map_or (λ n. n == 0) (number_in ENCRYPT_METHOD fields.now) false }
 {
-    match number_in(ENCRYPTION, fields) {
+    match number_in(ENCRYPT_METHOD, fields) {
         Some(n) => n == 0,
         None => false,
     }
@@ -35,9 +35,9 @@ fn is_bad_logon(incoming: &Incoming) -> bool
     let fields = incoming.fields.as_slice();
     failed_of(LOGON, fields).is_some()
         || !is_unencrypted(fields)
-        || !is_value(APPLICATION_VERSION, b"9", fields)
-        || 3600 < number_or_zero(HEARTBEAT_INTERVAL, fields)
-        || is_yes(RESET_NUMBERS, fields) && incoming.number != 1
+        || !is_value(DEFAULT_APPL_VER_ID, b"9", fields)
+        || 3600 < number_or_zero(HEART_BT_INT, fields)
+        || is_yes(RESET_SEQ_NUM_FLAG, fields) && incoming.number != 1
 }
 
 /// The state after a Logon, where `next` is the number that it was to have.
@@ -52,7 +52,7 @@ fn logged_on(state: State, incoming: &Incoming, next: u32) -> State
     };
     State {
         phase: Phase::Up,
-        heartbeat: number_or_zero(HEARTBEAT_INTERVAL, incoming.fields.as_slice()),
+        heartbeat: number_or_zero(HEART_BT_INT, incoming.fields.as_slice()),
         next_in,
         ..state
     }
@@ -71,7 +71,7 @@ fn takes_logon(
     ensures plan { IfOk result (λ p. p ≡ takes_logon state incoming.now reset next) }
     ensures quiet { IfOk result (λ p. p.request ≡ None) }
 {
-    let interval = text_in(HEARTBEAT_INTERVAL, incoming.fields.as_slice());
+    let interval = text_in(HEART_BT_INT, incoming.fields.as_slice());
     let answer = logon(alloc, interval, reset)?;
     let messages = if next < incoming.number {
         vec![in alloc; answer, resend_request(alloc, next)?]?
@@ -93,7 +93,7 @@ fn on_logon(alloc: Global, state: State, incoming: &Incoming) -> Result<Plan, No
     if is_bad_logon(incoming) {
         return logs_out(alloc, state, EndCause::BadLogon, b"BAD LOGON");
     }
-    let reset = is_yes(RESET_NUMBERS, incoming.fields.as_slice());
+    let reset = is_yes(RESET_SEQ_NUM_FLAG, incoming.fields.as_slice());
     let next = if reset { 1 } else { state.next_in };
     if incoming.number < next {
         return logs_out(alloc, state, EndCause::TooLow, b"TOO LOW");

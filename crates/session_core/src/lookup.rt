@@ -3,7 +3,7 @@ ghost use Rattle.std.specs.Prelude.{◌≡◌, ◌<◌, IfSome};
 ghost use Rattle.std.specs.Option.{option_copied};
 ghost use Rattle.session_core.specs.Lookup.{value_of, number_in, number_or_zero, text_in, is_value, is_yes, single_byte, kind_of, message_number};
 
-use crate::tags::{MESSAGE_TYPE, NUMBER};
+use crate::tags::{MSG_SEQ_NUM, MSG_TYPE};
 use fix_fields::{Field, number};
 
 /// The value of a tag.
@@ -84,7 +84,7 @@ pub fn single_byte(bytes: &[u8]) -> u8
 pub fn kind_of(fields: &[Field]) -> u8
     ensures { result ≡ kind_of fields.now }
 {
-    match value_of(MESSAGE_TYPE, fields) {
+    match value_of(MSG_TYPE, fields) {
         Some(bytes) => single_byte(bytes),
         None => 0,
     }
@@ -96,7 +96,7 @@ pub fn message_number(fields: &[Field]) -> Option<u32>
     ensures value { result ≡ message_number fields.now }
     ensures small { IfSome result (λ n. n < 1_000_000_000) }
 {
-    match number_in(NUMBER, fields) {
+    match number_in(MSG_SEQ_NUM, fields) {
         Some(0) => None,
         other => other,
     }

@@ -9,7 +9,7 @@ use crate::message::Incoming;
 use crate::plan::{Plan, Span, sends_again};
 use crate::reasons::VALUE_OUT_OF_RANGE;
 use crate::state::State;
-use crate::tags::{FIRST_NUMBER, LAST_NUMBER};
+use crate::tags::{BEGIN_SEQ_NO, END_SEQ_NO};
 use std::alloc::Global;
 use venue_words::NoMemory;
 
@@ -27,10 +27,10 @@ fn resends(
 {
     let Span { first, last } = asked;
     if first == 0 || sent < first {
-        return rejects(alloc, state, incoming, FIRST_NUMBER, VALUE_OUT_OF_RANGE);
+        return rejects(alloc, state, incoming, BEGIN_SEQ_NO, VALUE_OUT_OF_RANGE);
     }
     if last != 0 && last < first {
-        return rejects(alloc, state, incoming, LAST_NUMBER, VALUE_OUT_OF_RANGE);
+        return rejects(alloc, state, incoming, END_SEQ_NO, VALUE_OUT_OF_RANGE);
     }
     let last = if last == 0 || sent < last { sent } else { last };
     Ok(sends_again(alloc, state, Span { first, last }))
@@ -49,8 +49,8 @@ pub fn on_resend_request(
 {
     let fields = incoming.fields.as_slice();
     let asked = Span {
-        first: u64::from(number_or_zero(FIRST_NUMBER, fields)),
-        last: u64::from(number_or_zero(LAST_NUMBER, fields)),
+        first: u64::from(number_or_zero(BEGIN_SEQ_NO, fields)),
+        last: u64::from(number_or_zero(END_SEQ_NO, fields)),
     };
     resends(alloc, state, incoming, sent, asked)
 }

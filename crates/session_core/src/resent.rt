@@ -29,11 +29,7 @@ fn old_frame(
         moment,
         first_sent: Some(kept.moment),
     };
-    Ok(Bytes(frame(
-        alloc,
-        &head,
-        kept.message.body.as_slice(),
-    )?))
+    Ok(Bytes(frame(alloc, &head, kept.message.body.as_slice())?))
 }
 
 /// The SequenceReset that stands for a run of messages of the session, up to before a number.
@@ -85,7 +81,8 @@ fn push_entry(
     number: u64,
     entry: &Entry,
 ) -> Result<Option<u64>, NoMemory>
-    ensures frames { OnOk result (frames.new.items ≡ frames.old.items ++ frames_at member.now moment run number entry.now) }
+    ensures frames { OnOk result (frames.new.items
+        ≡ frames.old.items ++ frames_at member.now moment run number entry.now) }
     ensures run { IfOk result (λ r. r ≡ run_behind run number entry.now) }
 {
     match entry.kept() {

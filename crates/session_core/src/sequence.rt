@@ -16,26 +16,21 @@ use crate::reasons::{VALUE_OUT_OF_RANGE, WRONG_TYPE};
 use crate::resend::{on_resend_request, then_asks_again};
 use crate::state::{EndCause, State};
 use crate::tables::failed_of;
-use crate::tags::{GAP_FILL, MESSAGE_TYPE, NEW_NUMBER, POSSIBLE_DUPLICATE, TEST_REQUEST_ID};
+use crate::tags::{GAP_FILL_FLAG, MSG_TYPE, NEW_SEQ_NO, POSS_DUP_FLAG, TEST_REQ_ID};
 use std::alloc::Global;
 use venue_words::NoMemory;
 
 /// A SequenceReset sets the next number, where it is not below the least that it may be.
 #[tactic(auto, unfolding(crate::specs::Sequence::sets_next))]
-fn sets_next(
-    alloc: Global,
-    state: State,
-    incoming: &Incoming,
-    least: u32,
-) -> Result<Plan, NoMemory>
+fn sets_next(alloc: Global, state: State, incoming: &Incoming, least: u32) -> Result<Plan, NoMemory>
     ensures plan { IfOk result (λ p. p ≡ sets_next state incoming.now least) }
     ensures quiet { IfOk result (λ p. p.request ≡ None) }
 {
-    let next_in = number_or_zero(NEW_NUMBER, incoming.fields.as_slice());
+    let next_in = number_or_zero(NEW_SEQ_NO, incoming.fields.as_slice());
     if least <= next_in {
         Ok(stays(alloc, State { next_in, ..state }))
     } else {
-        rejects(alloc, state, incoming, NEW_NUMBER, VALUE_OUT_OF_RANGE)
+        rejects(alloc, state, incoming, NEW_SEQ_NO, VALUE_OUT_OF_RANGE)
     }
 }
 
@@ -69,7 +64,7 @@ fn too_low(alloc: Global, state: State, incoming: &Incoming) -> Result<Plan, NoM
     ensures plan { IfOk result (λ p. p ≡ too_low state incoming.now) }
     ensures quiet { IfOk result (λ p. p.request ≡ None) }
 {
-    if is_yes(POSSIBLE_DUPLICATE, incoming.fields.as_slice()) {
+    if is_yes(POSS_DUP_FLAG, incoming.fields.as_slice()) {
         Ok(stays(alloc, state))
     } else {
         logs_out(alloc, state, EndCause::TooLow, b"TOO LOW")
@@ -78,12 +73,7 @@ fn too_low(alloc: Global, state: State, incoming: &Incoming) -> Result<Plan, NoM
 
 /// A number that came too early. The message is not kept, and is asked for again.
 #[tactic(auto, unfolding(crate::specs::Sequence::too_early))]
-fn too_early(
-    alloc: Global,
-    state: State,
-    incoming: &Incoming,
-    sent: u64,
-) -> Result<Plan, NoMemory>
+fn too_early(alloc: Global, state: State, incoming: &Incoming, sent: u64) -> Result<Plan, NoMemory>
     ensures plan { IfOk result (λ p. p ≡ too_early state incoming.now sent) }
     ensures quiet { IfOk result (λ p. p.request ≡ None) }
 {
@@ -105,7 +95,7 @@ fn answers_test(alloc: Global, state: State, incoming: &Incoming) -> Result<Plan
     ensures plan { IfOk result (λ p. p ≡ answers_test state incoming.now) }
     ensures quiet { IfOk result (λ p. p.request ≡ None) }
 {
-    let id = text_in(TEST_REQUEST_ID, incoming.fields.as_slice());
+    let id = text_in(TEST_REQ_ID, incoming.fields.as_slice());
     let message = test_answer(alloc, id)?;
     Ok(says(state, vec![in alloc; message]?))
 }
@@ -124,7 +114,7 @@ fn by_type(alloc: Global, state: State, incoming: &Incoming, sent: u64) -> Resul
         RESEND_REQUEST => on_resend_request(alloc, state, incoming, sent),
         SEQUENCE_RESET => sets_next(alloc, state, incoming, incoming.number + 1),
         LOGOUT => logs_out(alloc, state, EndCause::Logout, b""),
-        LOGON => rejects(alloc, state, incoming, MESSAGE_TYPE, WRONG_TYPE),
+        LOGON => rejects(alloc, state, incoming, MSG_TYPE, WRONG_TYPE),
         _ => Ok(hands_out(alloc, state, incoming, None)),
     }
 }
@@ -181,7 +171,7 @@ pub fn when_up(
     ensures plan { IfOk result (λ p. p ≡ when_up state incoming.now sent) }
     ensures up { IfOk result HandsOutUp }
 {
-    if incoming.kind == SEQUENCE_RESET && !is_yes(GAP_FILL, incoming.fields.as_slice()) {
+    if incoming.kind == SEQUENCE_RESET && !is_yes(GAP_FILL_FLAG, incoming.fields.as_slice()) {
         on_reset(alloc, state, incoming)
     } else {
         by_number(alloc, state, incoming, sent)

@@ -1,8 +1,8 @@
 //! The session of one member.
 ghost use Rattle.std.specs.Prelude.{◌≡◌, ◌≤◌, ◌<◌, length, ◌++◌, ◌∷◌, [], Ok, IfOk, OnOk, OnErr, OnSome, IsOk, IsTrue, ◌↔◌};
 
-use crate::bodies::reject;
 use crate::answers::drops;
+use crate::bodies::reject;
 use crate::cases::{on_message, on_tick, on_too_long};
 use crate::content::content_of;
 use crate::frames::{entries_of, new_frame, push_new_frames, push_numbers};
@@ -12,7 +12,7 @@ use crate::plan::Plan;
 use crate::resent::frames_of_span;
 use crate::state::{EndCause, Phase, State, cause_of, heard, is_over, is_up};
 use crate::turn::{Turn, request_of, sent_now};
-use fix_fields::{Field, FieldFault, fields};
+use fix_fields::{Field, FieldFault, LONGEST_FRAME, fields};
 use std::alloc::Global;
 use std::marker::Model;
 use venue_words::{Bytes, Items, NoMemory};
@@ -38,11 +38,9 @@ impl Model for Session {
 
 impl Session {
     ghost use Rattle.session_core.specs.Frames.{numbers_of};
-    ghost use Rattle.session_core.specs.Bodies.{message};
     ghost use Rattle.session_core.specs.Plan.{HandsOutUp};
     ghost use Rattle.session_core.specs.State.{cause_of};
-    ghost use Rattle.session_core.specs.Cases.{on_too_long, on_tick};
-    ghost use Rattle.session_core.specs.Machine.{sending, rests, sent_before, replies_of, machine_after, carried_out, plan_for, on_fields, on_frame, on_clock, on_overlong, on_send, on_reject, connected, given_up, fresh, IsUp, IsOver};
+    ghost use Rattle.session_core.specs.Machine.{sending, rests, sent_before, replies_of, machine_after, carried_out, plan_for, on_fields, on_frame, ticks, on_clock, ends_too_long, on_overlong, on_send, on_send_one, on_reject, connected, given_up, fresh, IsUp, IsOver};
 
     /// The session of a member, closed until a Logon. This takes no memory.
     pub fn new(alloc: Global, member: Bytes) -> Session
@@ -123,7 +121,8 @@ impl Session {
 
     /// Forgets what was sent where a plan says so, and keeps the numbers of its messages.
     fn keep_numbers(&mut self, plan: &Plan) -> Result<(), NoMemory>
-        ensures ok { OnOk result (self.new ≡ record self.old { sent = sent_before self.old plan.now.reset ++ numbers_of plan.now.messages }) }
+        ensures ok { OnOk result (self.new
+            ≡ record self.old { sent = sent_before self.old plan.now.reset ++ numbers_of plan.now.messages }) }
         ensures err { OnErr result (self.new ≡ self.old) }
     {
         let count = plan.messages.as_slice().len();
@@ -152,7 +151,12 @@ impl Session {
 
     /// Carries a plan out, over the fields of a message. Nothing changes where memory is wanted.
     #[tactic(auto, unfolding(crate::specs::Machine::carried_out))]
-    fn carry_out(&mut self, moment: i64, fields: Items<Field>, plan: &Plan) -> Result<Turn, NoMemory>
+    fn carry_out(
+        &mut self,
+        moment: i64,
+        fields: Items<Field>,
+        plan: &Plan,
+    ) -> Result<Turn, NoMemory>
         requires { HandsOutUp plan.now }
         ensures machine { OnOk result (self.new ≡ (carried_out self.old moment fields plan.now).machine) }
         ensures turn { IfOk result (λ turn. turn ≡ (carried_out self.old moment fields plan.now).turn) }
@@ -192,7 +196,7 @@ impl Session {
     /// What a frame does. Nothing changes where memory is wanted.
     #[tactic(auto, unfolding(crate::specs::Machine::on_frame))]
     fn work_frame(&mut self, frame: &[u8], moment: i64) -> Result<Turn, NoMemory>
-        requires { length frame.now ≤ 8192 }
+        requires { length frame.now ≤ LONGEST_FRAME }
         ensures machine { OnOk result (self.new ≡ (on_frame self.old frame.now moment).machine) }
         ensures turn { IfOk result (λ turn. turn ≡ (on_frame self.old frame.now moment).turn) }
         ensures up { IfOk result (λ turn. OnSome turn.request (IsUp self.new)) }
@@ -213,7 +217,7 @@ impl Session {
     /// where it hands a message out. Where memory is wanted the connection ends without a cause, and its replies are
     /// lost; the next connection can ask for what was kept before. A session that has ended wants none.
     pub fn take(&mut self, frame: &[u8], moment: i64) -> Result<Turn, NoMemory>
-        requires { length frame.now ≤ 8192 }
+        requires { length frame.now ≤ LONGEST_FRAME }
         ensures machine { OnOk result (self.new ≡ (on_frame self.old frame.now moment).machine) }
         ensures turn { IfOk result (λ turn. turn ≡ (on_frame self.old frame.now moment).turn) }
         ensures up { IfOk result (λ turn. OnSome turn.request (IsUp self.new)) }
@@ -230,7 +234,11 @@ impl Session {
     }
 
     /// Carries out a plan that no message asked for. Where memory is wanted the connection ends.
-    fn carry_out_alone(&mut self, moment: i64, plan: Result<Plan, NoMemory>) -> Result<Turn, NoMemory>
+    fn carry_out_alone(
+        &mut self,
+        moment: i64,
+        plan: Result<Plan, NoMemory>,
+    ) -> Result<Turn, NoMemory>
         requires { IfOk plan HandsOutUp }
         ensures machine { OnOk result (IfOk plan (λ p. self.new ≡ (carried_out self.old moment [] p).machine)) }
         ensures turn { IfOk result (λ turn. IfOk plan (λ p. turn ≡ (carried_out self.old moment [] p).turn)) }
@@ -252,8 +260,8 @@ impl Session {
 
     /// Ends a connection that has not ended.
     fn end_too_long(&mut self, moment: i64) -> Result<Turn, NoMemory>
-        ensures machine { OnOk result (self.new ≡ (carried_out self.old moment [] (on_too_long self.old.state)).machine) }
-        ensures turn { IfOk result (λ turn. turn ≡ (carried_out self.old moment [] (on_too_long self.old.state)).turn) }
+        ensures machine { OnOk result (self.new ≡ (ends_too_long self.old moment).machine) }
+        ensures turn { IfOk result (λ turn. turn ≡ (ends_too_long self.old moment).turn) }
         ensures err { OnErr result (self.new ≡ given_up self.old) }
     {
         let plan = on_too_long(self.alloc, self.state);
@@ -277,8 +285,8 @@ impl Session {
 
     /// What a tick does to a session that is up.
     fn work_tick(&mut self, moment: i64) -> Result<Turn, NoMemory>
-        ensures machine { OnOk result (self.new ≡ (carried_out self.old moment [] (on_tick moment self.old.state)).machine) }
-        ensures turn { IfOk result (λ turn. turn ≡ (carried_out self.old moment [] (on_tick moment self.old.state)).turn) }
+        ensures machine { OnOk result (self.new ≡ (ticks self.old moment).machine) }
+        ensures turn { IfOk result (λ turn. turn ≡ (ticks self.old moment).turn) }
         ensures err { OnErr result (self.new ≡ given_up self.old) }
     {
         let plan = on_tick(self.alloc, moment, self.state);
@@ -307,8 +315,8 @@ impl Session {
     #[tactic(auto, unfolding(crate::specs::Machine::on_send, crate::specs::Frames::new_frames))]
     pub fn send(&mut self, kind: u8, body: &[u8], moment: i64) -> Result<Bytes, NoMemory>
         requires { IsUp self.old }
-        ensures machine { OnOk result (self.new ≡ (on_send self.old (message kind body.now ∷ []) moment).machine) }
-        ensures reply { IfOk result (λ frame. frame ∷ [] ≡ (on_send self.old (message kind body.now ∷ []) moment).turn.replies) }
+        ensures machine { OnOk result (self.new ≡ (on_send_one self.old kind body.now moment).machine) }
+        ensures reply { IfOk result (λ frame. frame ∷ [] ≡ (on_send_one self.old kind body.now moment).turn.replies) }
         ensures err { OnErr result (self.new ≡ self.old) }
     {
         let message = Message {
@@ -328,7 +336,8 @@ impl Session {
     pub fn send_all(&mut self, messages: &[Message], moment: i64) -> Result<Vec<Bytes>, NoMemory>
         requires { IsUp self.old }
         ensures machine { OnOk result (self.new ≡ (on_send self.old messages.now moment).machine) }
-        ensures replies { IfOk result (λ frames. frames.items ≡ (on_send self.old messages.now moment).turn.replies) }
+        ensures replies { IfOk result (λ frames. frames.items
+            ≡ (on_send self.old messages.now moment).turn.replies) }
         ensures err { OnErr result (self.new ≡ self.old) }
     {
         let first = self.sent.len() as u64 + 1;
@@ -353,7 +362,8 @@ impl Session {
     ) -> Result<Bytes, NoMemory>
         requires { IsUp self.old }
         ensures machine { OnOk result (self.new ≡ (on_reject self.old number kind tag reason moment).machine) }
-        ensures reply { IfOk result (λ frame. frame ∷ [] ≡ (on_reject self.old number kind tag reason moment).turn.replies) }
+        ensures reply { IfOk result (λ frame. frame ∷ []
+            ≡ (on_reject self.old number kind tag reason moment).turn.replies) }
         ensures err { OnErr result (self.new ≡ self.old) }
     {
         let message = reject(self.alloc, number, tag, &[kind], reason)?;

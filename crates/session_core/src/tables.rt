@@ -5,8 +5,8 @@ ghost use Rattle.session_core.specs.Tables.{required_of, optional_of, failed_of}
 use crate::checks::{FailedCheck, Item, first_failed};
 use crate::message_types::{LOGON, RESEND_REQUEST, SEQUENCE_RESET, TEST_REQUEST};
 use crate::tags::{
-    APPLICATION_VERSION, ENCRYPTION, FIRST_NUMBER, GAP_FILL, HEARTBEAT_INTERVAL, LAST_NUMBER,
-    NEW_NUMBER, POSSIBLE_DUPLICATE, RESET_NUMBERS, SENDING_TIME, TEST_REQUEST_ID,
+    BEGIN_SEQ_NO, DEFAULT_APPL_VER_ID, ENCRYPT_METHOD, END_SEQ_NO, GAP_FILL_FLAG, HEART_BT_INT,
+    NEW_SEQ_NO, POSS_DUP_FLAG, RESET_SEQ_NUM_FLAG, SENDING_TIME, TEST_REQ_ID,
 };
 use fix_fields::Field;
 
@@ -25,11 +25,11 @@ pub fn required_of(kind: u8) -> &'static [Item]
 {
     match kind {
         LOGON => items![
-            SENDING_TIME: Moment, ENCRYPTION: Number, HEARTBEAT_INTERVAL: Number, APPLICATION_VERSION: Text
+            SENDING_TIME: Moment, ENCRYPT_METHOD: Number, HEART_BT_INT: Number, DEFAULT_APPL_VER_ID: Text
         ],
-        TEST_REQUEST => items![SENDING_TIME: Moment, TEST_REQUEST_ID: Text],
-        RESEND_REQUEST => items![SENDING_TIME: Moment, FIRST_NUMBER: Number, LAST_NUMBER: Number],
-        SEQUENCE_RESET => items![SENDING_TIME: Moment, NEW_NUMBER: Number],
+        TEST_REQUEST => items![SENDING_TIME: Moment, TEST_REQ_ID: Text],
+        RESEND_REQUEST => items![SENDING_TIME: Moment, BEGIN_SEQ_NO: Number, END_SEQ_NO: Number],
+        SEQUENCE_RESET => items![SENDING_TIME: Moment, NEW_SEQ_NO: Number],
         _ => items![SENDING_TIME: Moment],
     }
 }
@@ -40,9 +40,9 @@ pub fn optional_of(kind: u8) -> &'static [Item]
     ensures { result.now ≡ optional_of kind }
 {
     match kind {
-        LOGON => items![POSSIBLE_DUPLICATE: Boolean, RESET_NUMBERS: Boolean],
-        SEQUENCE_RESET => items![POSSIBLE_DUPLICATE: Boolean, GAP_FILL: Boolean],
-        _ => items![POSSIBLE_DUPLICATE: Boolean],
+        LOGON => items![POSS_DUP_FLAG: Boolean, RESET_SEQ_NUM_FLAG: Boolean],
+        SEQUENCE_RESET => items![POSS_DUP_FLAG: Boolean, GAP_FILL_FLAG: Boolean],
+        _ => items![POSS_DUP_FLAG: Boolean],
     }
 }
 
