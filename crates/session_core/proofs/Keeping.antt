@@ -80,7 +80,7 @@ in_turn-reset state message sent =
     let failed = failed_of message.kind message.fields in
     let plan = by_type state message sent in
     let passes : (unless_failed state message failed plan).reset ≡ false =
-        unless_failed-reset state message failed plan (by_type-reset state message sent) in
+    unless_failed-reset state message failed plan (by_type-reset state message sent) in
     grind arith
 
 by_number-reset : (state : State) (message : Incoming) (sent : ℕ) → (by_number state message sent).reset ≡ false

@@ -30,3 +30,6 @@ pub use runs::Input;
 pub use session::Session;
 pub use state::{EndCause, Phase, State};
 pub use turn::Turn;
+
+#[cfg(test)]
+mod tests;
