@@ -277,10 +277,10 @@ impl Session {
         ensures over { IsOver self.old → IsOk result }
         ensures err { OnErr result (self.new ≡ given_up self.old) }
     {
-        if is_over(self.state.phase) {
-            return Ok(self.quiet());
+        match self.state.phase {
+            Phase::Ended(_) => Ok(self.quiet()),
+            Phase::New | Phase::Up => self.end_too_long(moment),
         }
-        self.end_too_long(moment)
     }
 
     /// What a tick does to a session that is up.

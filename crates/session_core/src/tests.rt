@@ -12,8 +12,11 @@ mod received;
 
 const LOGON: &[u8] = b"35=A|49=A|56=PEGV|34=1|52=20240102-14:30:00|98=0|108=30|1137=9|";
 
+/// Texts, in which `|` stands for the end of a field.
+type Texts = &'static [&'static [u8]];
+
 /// What a member sends, what is sent to it, and why the connection then ends.
-type Case<'a> = (&'a [&'a [u8]], &'a [&'a [u8]], Option<EndCause>);
+type Case = (Texts, Texts, Option<EndCause>);
 
 /// The bytes of a text in which `|` stands for the end of a field.
 fn bytes_of(alloc: Global, text: &[u8]) -> Result<Vec<u8>, AllocError> {
@@ -65,17 +68,17 @@ fn fresh(alloc: Global) -> Result<Session, AllocError> {
 }
 
 /// Whether a session answers so.
-fn answers(alloc: Global, session: &mut Session, case: &Case<'_>) -> Result<bool, NoMemory> {
+fn answers(alloc: Global, session: &mut Session, case: Case) -> Result<bool, NoMemory> {
     let (received, expected, cause) = case;
     let mut sent = Vec::new(alloc);
     let mut ended = None;
-    for text in *received {
+    for text in received {
         let turn = take(alloc, session, text)?;
         let mut replies = turn.replies.into_vec();
         sent.append(&mut replies)?;
         ended = turn.ended;
     }
-    Ok(have_contents(alloc, &sent, expected)? && ended == *cause)
+    Ok(have_contents(alloc, &sent, expected)? && ended == cause)
 }
 
 #[test]
@@ -97,7 +100,7 @@ fn a_logon_is_answered(rt: HostRuntime) -> Result<(), Fail> {
 #[test]
 fn before_the_logon(rt: HostRuntime) -> Result<(), Fail> {
     let alloc = rt.alloc();
-    let cases: [Case<'_>; 9] = [
+    let cases: [Case; 9] = [
         // Another message, another member, another venue, no number: nothing is sent.
         (
             &[b"35=0|49=A|56=PEGV|34=1|52=20240102-14:30:00|"],
@@ -150,7 +153,7 @@ fn before_the_logon(rt: HostRuntime) -> Result<(), Fail> {
             None,
         ),
     ];
-    for (i, case) in cases.iter().enumerate() {
+    for (i, case) in cases.into_iter().enumerate() {
         assert!(rt; answers(alloc, &mut fresh(alloc)?, case)?, "case {i}");
     }
     Ok(())
@@ -179,7 +182,7 @@ fn what_was_sent_is_sent_again(rt: HostRuntime) -> Result<(), Fail> {
     let first = session.send(b'8', &body, start())?;
     let report = b"35=8|49=PEGV|56=A|34=2|52=20240102-14:30:00.000|37=X-2|11=a1|";
     assert!(rt; have_contents(alloc, &[first], &[report])?);
-    let cases: [Case<'_>; 4] = [
+    let cases: [Case; 4] = [
         // All that was sent: the answer to the Logon as a gap, and the report with its own number.
         (
             &[b"35=2|49=A|56=PEGV|34=3|52=20240102-14:30:00|7=1|16=0|"],
@@ -217,7 +220,7 @@ fn what_was_sent_is_sent_again(rt: HostRuntime) -> Result<(), Fail> {
             None,
         ),
     ];
-    for (i, case) in cases.iter().enumerate() {
+    for (i, case) in cases.into_iter().enumerate() {
         assert!(rt; answers(alloc, &mut session, case)?, "case {i}");
     }
     Ok(())
@@ -232,7 +235,7 @@ fn numbers_begin_again_by_a_logon(rt: HostRuntime) -> Result<(), Fail> {
     let _ = session.send(b'8', &body, start())?;
     session.open();
     assert!(rt; !session.is_up());
-    let case: Case<'_> = (
+    let case: Case = (
         &[
             b"35=A|49=A|56=PEGV|34=1|52=20240102-14:30:00|98=0|108=30|1137=9|141=Y|",
             b"35=2|49=A|56=PEGV|34=2|52=20240102-14:30:00|7=1|16=0|",
@@ -243,7 +246,7 @@ fn numbers_begin_again_by_a_logon(rt: HostRuntime) -> Result<(), Fail> {
         ],
         None,
     );
-    assert!(rt; answers(alloc, &mut session, &case)?);
+    assert!(rt; answers(alloc, &mut session, case)?);
     Ok(())
 }
 
@@ -269,7 +272,7 @@ fn silence_is_tested_and_then_ends(rt: HostRuntime) -> Result<(), Fail> {
     let alloc = rt.alloc();
     let mut session = logged_on(alloc)?;
     let silent = Some(EndCause::Silent);
-    let cases: [(&[u8], &[&[u8]], Option<EndCause>); 6] = [
+    let cases: [(&'static [u8], Texts, Option<EndCause>); 6] = [
         (b"20240102-14:30:29.999", &[], None),
         (
             b"20240102-14:30:30",
@@ -319,7 +322,7 @@ fn inputs_of_all_kinds(rt: HostRuntime) -> Result<(), Fail> {
     ];
     let answers = session.work_all(&inputs)?;
     let too_long = Some(EndCause::TooLong);
-    let expected: [(&[&[u8]], Option<EndCause>); 6] = [
+    let expected: [(Texts, Option<EndCause>); 6] = [
         (
             &[b"35=3|49=PEGV|56=A|34=2|52=20240102-14:30:00.000|45=7|371=38|372=D|373=1|"],
             None,

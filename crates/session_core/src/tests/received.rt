@@ -6,7 +6,7 @@ use std::test::Fail;
 #[test]
 fn numbers_and_names(rt: HostRuntime) -> Result<(), Fail> {
     let alloc = rt.alloc();
-    let cases: [Case<'_>; 10] = [
+    let cases: [Case; 10] = [
         // A number too early is asked for again and not kept; the one that was to come is then taken.
         (
             &[
@@ -81,7 +81,7 @@ fn numbers_and_names(rt: HostRuntime) -> Result<(), Fail> {
             Some(EndCause::Logout),
         ),
     ];
-    for (i, case) in cases.iter().enumerate() {
+    for (i, case) in cases.into_iter().enumerate() {
         assert!(rt; answers(alloc, &mut logged_on(alloc)?, case)?, "case {i}");
     }
     Ok(())
@@ -90,7 +90,7 @@ fn numbers_and_names(rt: HostRuntime) -> Result<(), Fail> {
 #[test]
 fn checks_and_types(rt: HostRuntime) -> Result<(), Fail> {
     let alloc = rt.alloc();
-    let cases: [Case<'_>; 10] = [
+    let cases: [Case; 10] = [
         // The number stands twice.
         (
             &[b"35=0|49=A|56=PEGV|34=2|34=3|52=20240102-14:30:00|"],
@@ -172,7 +172,7 @@ fn checks_and_types(rt: HostRuntime) -> Result<(), Fail> {
             None,
         ),
     ];
-    for (i, case) in cases.iter().enumerate() {
+    for (i, case) in cases.into_iter().enumerate() {
         assert!(rt; answers(alloc, &mut logged_on(alloc)?, case)?, "case {i}");
     }
     Ok(())
