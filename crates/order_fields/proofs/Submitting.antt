@@ -10,38 +10,42 @@ use Rattle.fix_fields.specs.declared.field.Field.{Field}
 use Rattle.venue_words.specs.declared.config.Config.{Config}
 use Rattle.venue_words.specs.Conditions.{IsConfig, fits_limits, fits_id}
 use Rattle.venue_words.specs.Floors.{Setup, setup_of, is_configured}
-use Rattle.session_core.specs.declared.checks.Form.TheVariants.{Identifier}
+use Rattle.session_core.specs.declared.checks.Form.TheVariants.{Identifier, Moment}
 use Rattle.session_core.specs.declared.checks.Item.{Item}
 use Rattle.session_core.specs.declared.checks.FailedCheck.{FailedCheck}
 use Rattle.session_core.specs.declared.message.Request.{Request}
 use Rattle.session_core.specs.Lookup.{value_of, text_in}
-use Rattle.session_core.specs.Checks.{first_failed, failed_by, first_long, is_long, is_longer, tag_of_item}
+use Rattle.session_core.specs.Checks.{first_failed, failed_by, first_empty, first_repeated, first_missing, first_outside, first_long, is_long, is_longer, tag_of_item}
+use Rattle.session_core.specs.declared.reasons.TheConstants.{TAG_MISSING, TAG_REPEATED, VALUE_MISSING, VALUE_OUT_OF_FORM, VALUE_OUT_OF_RANGE}
+use Rattle.fix_write.specs.declared.tags.TheConstants.{SENDING_TIME}
 use Rattle.session_core.specs.MessageTypes.{is_order}
 use Rattle.session_core.specs.declared.message_types.TheConstants.{NEW_ORDER, CANCEL_REQUEST, REPLACE_REQUEST}
 use Rattle.session_core.specs.Tables.{item}
 use Rattle.order_fields.specs.declared.order.Refusal.{Refusal}
 use Rattle.order_fields.specs.declared.order.Decoded.{Decoded}
 use Rattle.order_fields.specs.declared.tags.TheConstants.{CL_ORD_ID, ORIG_CL_ORD_ID, SYMBOL}
-use Rattle.order_fields.specs.Tables.{required_of}
+use Rattle.order_fields.specs.Tables.{required_of, optional_of, behind_id, canceling, ordering}
 use Rattle.order_fields.specs.Order.{command_of, order, decoded_of, decoded_at, symbol_of, unless_failed, failed_of, CanSubmit}
 
--- where no check fails, this one and the next ones don't
-failed_by-None : (reason : ℕ) (found : Option ℕ) (next : Option FailedCheck) → failed_by reason found next ≡ None →
-    (found ≡ None) × (next ≡ None)
-failed_by-None reason None next h = (refl, h)
-failed_by-None reason (Some tag) next h = cc
+-- where no check fails, the last does not
+last_passes : (a b c d e f : Option ℕ) (r s t u v w : ℕ) →
+    failed_by r a (failed_by s b (failed_by t c (failed_by u d (failed_by v e (failed_by w f None))))) ≡ None → f ≡ None
+last_passes None None None None None None r s t u v w h = refl
+last_passes None None None None None (Some f) r s t u v w h = cc
+last_passes None None None None (Some e) f r s t u v w h = cc
+last_passes None None None (Some d) e f r s t u v w h = cc
+last_passes None None (Some c) d e f r s t u v w h = cc
+last_passes None (Some b) c d e f r s t u v w h = cc
+last_passes (Some a) b c d e f r s t u v w h = cc
 
 -- where no check fails, no identifier is too long
-passed_long : (required optional : List Item) (fields : List Field) → first_failed required optional fields ≡ None →
+none_long : (required optional : List Item) (fields : List Field) → first_failed required optional fields ≡ None →
     first_long required fields ≡ None
 unfolding first_failed
-passed_long required optional fields h =
-    let a = (failed_by-None _ _ _ h).1 in
-    let b = (failed_by-None _ _ _ a).1 in
-    let d = (failed_by-None _ _ _ b).1 in
-    let e = (failed_by-None _ _ _ d).1 in
-    let f = (failed_by-None _ _ _ e).1 in
-    (failed_by-None _ _ _ f).0
+none_long required optional fields h =
+    last_passes (first_empty fields) (first_repeated required optional [] fields) (first_missing required fields)
+    (first_outside required fields) (first_outside optional fields) (first_long required fields)
+    VALUE_MISSING TAG_REPEATED TAG_MISSING VALUE_OUT_OF_FORM VALUE_OUT_OF_FORM VALUE_OUT_OF_RANGE h
 
 -- a search that finds nothing passes over the first
 nothing_first : {X : Type 0} (b : Bool) (x : X) (rest : Option X) → cond b (Some x) rest ≡ None → (b ≡ false) × (rest ≡ None)
@@ -66,42 +70,45 @@ id_fits : (tag : ℕ) (fields : List Field) → is_long fields (item tag Identif
 unfolding text_in
 id_fits tag fields h = short_fits (value_of tag fields) h
 
-one_fits : (fields : List Field) (first : Item) (others : List Item) →
-    find (is_long fields) (first ∷ item CL_ORD_ID Identifier ∷ others) ≡ None →
-    fits_id (text_in CL_ORD_ID fields) ≡ true
-one_fits fields first others h =
-    let behind = (find-None (is_long fields) first (item CL_ORD_ID Identifier ∷ others) h).1 in
-    id_fits CL_ORD_ID fields (find-None (is_long fields) (item CL_ORD_ID Identifier) others behind).0
+-- the first identifier, and the second where there is one
+id_is_short : (kind : ℕ) (fields : List Field) → find (is_long fields) (required_of kind) ≡ None →
+    (fits_id (text_in CL_ORD_ID fields) ≡ true) × (find (is_long fields) (behind_id kind) ≡ None)
+unfolding required_of
+id_is_short kind fields h =
+    let behind_time = find-None (is_long fields) (item SENDING_TIME Moment) (item CL_ORD_ID Identifier ∷ behind_id kind) h in
+    let at_id = find-None (is_long fields) (item CL_ORD_ID Identifier) (behind_id kind) behind_time.1 in
+    (id_fits CL_ORD_ID fields at_id.0, at_id.1)
+
+orig_is_short : (fields : List Field) (others : List Item) →
+    find (is_long fields) (item ORIG_CL_ORD_ID Identifier ∷ others) ≡ None → fits_id (text_in ORIG_CL_ORD_ID fields) ≡ true
+orig_is_short fields others h =
+    id_fits ORIG_CL_ORD_ID fields (find-None (is_long fields) (item ORIG_CL_ORD_ID Identifier) others h).0
 
 both_true : (a b : Bool) → a ≡ true → b ≡ true → (a && b) ≡ true
 both_true true b h k = k
 both_true false b h k = cc
 
-two_fit : (fields : List Field) (first : Item) (others : List Item) →
-    find (is_long fields) (first ∷ item CL_ORD_ID Identifier ∷ item ORIG_CL_ORD_ID Identifier ∷ others) ≡ None →
+two_fit : (fields : List Field) (others : List Item) → fits_id (text_in CL_ORD_ID fields) ≡ true →
+    find (is_long fields) (item ORIG_CL_ORD_ID Identifier ∷ others) ≡ None →
     (fits_id (text_in CL_ORD_ID fields) && fits_id (text_in ORIG_CL_ORD_ID fields)) ≡ true
-two_fit fields first others h =
-    let behind = (find-None (is_long fields) first _ h).1 in
-    let last = (find-None (is_long fields) (item CL_ORD_ID Identifier) _ behind).1 in
-    both_true (fits_id (text_in CL_ORD_ID fields)) (fits_id (text_in ORIG_CL_ORD_ID fields))
-    (one_fits fields first _ h)
-    (id_fits ORIG_CL_ORD_ID fields (find-None (is_long fields) (item ORIG_CL_ORD_ID Identifier) others last).0)
+two_fit fields others id h =
+    both_true (fits_id (text_in CL_ORD_ID fields)) (fits_id (text_in ORIG_CL_ORD_ID fields)) id (orig_is_short fields others h)
 
 -- by the two cases of a test
-by_test : (b : Bool) {P : Type 0} → (b ≡ true → P) → (b ≡ false → P) → P
-by_test true yes no = yes refl
-by_test false yes no = no refl
+by_test : {P : Type 0} (b : Bool) → (b ≡ true → P) → (b ≡ false → P) → P
+by_test true holds fails = holds refl
+by_test false holds fails = fails refl
 
 -- a command of an order that passes the checks keeps to the limits
-command_fits : (kind member : ℕ) (fields : List Field) → find (is_long fields) (required_of kind) ≡ None →
-    fits_limits (command_of kind member fields) ≡ true
-unfolding command_of required_of
-command_fits kind member fields h =
-    by_test (kind == NEW_ORDER) (λ new. rw new (one_fits fields _ _ (rw new at h)))
-    (λ new. by_test (kind == CANCEL_REQUEST) (λ cancel. rw (new, cancel) (two_fit fields _ _ (rw (new, cancel) at h)))
+command_fits : (kind member : ℕ) (fields : List Field) → fits_id (text_in CL_ORD_ID fields) ≡ true →
+    find (is_long fields) (behind_id kind) ≡ None → fits_limits (command_of kind member fields) ≡ true
+unfolding command_of behind_id
+command_fits kind member fields id h =
+    by_test (kind == NEW_ORDER) (λ new. rw new id)
+    (λ new. by_test (kind == CANCEL_REQUEST) (λ cancel. rw (new, cancel) (two_fit fields canceling id (rw (new, cancel) at h)))
     (λ cancel. by_test (kind == REPLACE_REQUEST)
-    (λ replace. rw (new, cancel, replace) (two_fit fields _ _ (rw (new, cancel, replace) at h)))
-    (λ replace. rw (new, cancel, replace) (one_fits fields _ _ (rw (new, cancel, replace) at h)))))
+    (λ replace. rw (new, cancel, replace) (two_fit fields ordering id (rw (new, cancel, replace) at h)))
+    (λ replace. rw (new, cancel, replace) id)))
 
 -- a command of a configured member is configured
 command_configured : (setup : Setup) (kind member : ℕ) (fields : List Field) → nat_lt member setup.members ≡ true →
@@ -129,19 +136,22 @@ at_symbol request member config moment None ok configured e short = tt
 at_symbol request member config moment (Some symbol) ok configured e short =
     let place = position-Some (λ (name : List ℕ). bytes_eq name (text_in SYMBOL request.fields)) config.symbols symbol [] e in
     let in_range : symbol < length config.limits = rw ok.limit_each place.0 in
-    let is_member : nat_lt member (length config.members) ≡ true = lt-ltb member (length config.members) configured in (
+    let is_member : nat_lt member (length config.members) ≡ true = lt-ltb member (length config.members) configured in
+    let ids = id_is_short request.kind request.fields short in (
       in_range,
       command_configured (setup_of config) request.kind member request.fields is_member,
-      command_fits request.kind member request.fields short,
+      command_fits request.kind member request.fields ids.0 ids.1,
     )
 
 pub can_submit : (request : Request) (member : ℕ) (config : Config) (moment : ℤ) (decoded : Decoded) → IsConfig config →
-    member < length config.members → Ok decoded ≡ order request member config moment →
+    member < length config.members → order request member config moment ≡ Ok decoded →
     CanSubmit (setup_of config) decoded
 unfolding order decoded_of first_long
 can_submit request member config moment decoded ok configured e =
+    let symbol = symbol_of config.symbols (text_in SYMBOL request.fields) in
     by_test (is_order request.kind)
-    (λ is. let found = passes (failed_of request) _ decoded (sym (rw is at e)) in
-    let short = no_tag _ (passed_long _ _ request.fields found.0) in
-    subst (CanSubmit (setup_of config)) found.1 (at_symbol request member config moment _ ok configured refl short))
+    (λ is. let found = passes (failed_of request) (decoded_at request member moment symbol) decoded (rw is at e) in
+    let short = no_tag (find (is_long request.fields) (required_of request.kind))
+        (none_long (required_of request.kind) (optional_of request.kind) request.fields found.0) in
+    subst (CanSubmit (setup_of config)) found.1 (at_symbol request member config moment symbol ok configured refl short))
     (λ is. let impossible = rw is at e in cc)

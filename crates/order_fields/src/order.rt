@@ -1,5 +1,5 @@
 //! What an order asks for, or the first reason for which it is refused.
-ghost use Rattle.std.specs.Prelude.{◌≡◌, ◌≤◌, ◌<◌, IfOk, length};
+ghost use Rattle.std.specs.Prelude.{◌≡◌, ◌≤◌, ◌<◌, IfOk, IfSome, length};
 ghost use Rattle.venue_words.specs.Conditions.{IsConfig};
 ghost use Rattle.venue_words.specs.Floors.{setup_of};
 ghost use Rattle.order_fields.specs.Order.{command_of, stray_refusal, stray_kind, symbol_of, decoded_of, order, Answers, CanSubmit};
@@ -101,12 +101,20 @@ fn stray_kind(alloc: Global, kind: u8, fields: &[Field]) -> Result<Kind, NoMemor
     }
 }
 
+/// The place of a symbol.
+fn place_of(symbols: &[Bytes], name: &[u8]) -> Option<usize>
+    ensures place { result ≡ symbol_of symbols.now name.now }
+    ensures bound { IfSome result (λ place. place < length symbols.now) }
+{
+    symbols.iter().position(|symbol| symbol.as_slice() == name)
+}
+
 /// The number of a symbol.
 fn symbol_of(symbols: &[Bytes], name: &[u8]) -> Option<u32>
     requires { length symbols.now ≤ 256 }
     ensures { result ≡ symbol_of symbols.now name.now }
 {
-    match symbols.iter().position(|symbol| symbol.as_slice() == name) {
+    match place_of(symbols, name) {
         Some(place) => Some(place as u32),
         None => None,
     }

@@ -12,7 +12,7 @@ use session_core::tags::{POSS_DUP_FLAG, SENDING_TIME};
 use session_core::{Item, items};
 
 /// The tags that an order must have, in order; those of every message first.
-#[tactic(auto, unfolding(crate::specs::Tables::required_of))]
+#[tactic(auto, unfolding(crate::specs::Tables::required_of, crate::specs::Tables::behind_id))]
 pub fn required_of(kind: u8) -> &'static [Item]
     ensures { result.now ≡ required_of kind }
 {
