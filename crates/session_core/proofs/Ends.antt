@@ -1,15 +1,12 @@
 -- A session that is over stays as it is.
-use Rattle.std.proofs.Common.{◌≡◌, List, Result, Ok, Err, [], ◌∷◌, true, false, refl, ap, subst, ◌∙◌}
-use Rattle.std.specs.Prelude.{ℤ, IsTrue, not}
-use Rattle.std.specs.List.{AllByRecursion}
-use Rattle.venue_words.specs.declared.refusal.NoMemory.{NoMemory}
+use Rattle.std.proofs.Common.{◌≡◌, Ok, Err, [], ◌∷◌, true, false, refl, ap, subst, ◌∙◌}
+use Rattle.std.specs.Prelude.{IsTrue, not}
 use Rattle.session_core.specs.declared.runs.Input.{Input}
 use Rattle.session_core.specs.declared.runs.Input.TheVariants.{Connection, Frame, TooLong, Tick, Send, Reject}
 use Rattle.session_core.specs.declared.state.Phase.{Phase}
 use Rattle.session_core.specs.declared.state.Phase.TheVariants.{New, Up, Ended}
-use Rattle.session_core.specs.declared.turn.Turn.{Turn}
 use Rattle.session_core.specs.State.{is_up_phase, is_over}
-use Rattle.session_core.specs.Machine.{Machine, Outcome, IsOver, rests, on_frame, on_clock, on_overlong}
+use Rattle.session_core.specs.Machine.{Machine, Outcome, rests, on_frame, on_clock, on_overlong}
 use Rattle.session_core.specs.Runs.{outcome_of, Follows}
 use Rattle.session_core.specs.Laws.{is_connection, EndedStays}
 

@@ -14,9 +14,9 @@ use Rattle.session_core.specs.Lookup.{message_number, kind_of, is_yes}
 use Rattle.session_core.specs.Content.{content_of}
 use Rattle.session_core.specs.State.{is_up, heard}
 use Rattle.session_core.specs.Answers.{logs_out, drops, rejects, unless_failed, drops_wrong_name}
-use Rattle.session_core.specs.Resend.{resends, on_resend_request, then_asks_again}
+use Rattle.session_core.specs.Resend.{resends, on_resend_request}
 use Rattle.session_core.specs.Sequence.{on_logout, too_low, too_early, by_number, when_up}
-use Rattle.session_core.specs.Cases.{on_message, on_no_number}
+use Rattle.session_core.specs.Cases.{on_message}
 use Rattle.session_core.specs.Machine.{Machine, on_frame, on_fields, carried_out, sent_now, plan_for, incoming}
 use Rattle.session_core.specs.Laws.{is_astray, is_garbled_or_astray, NumberStays}
 use Rattle.session_core.proofs.Keeping.{up_not_over}

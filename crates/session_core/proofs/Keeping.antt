@@ -1,5 +1,5 @@
 -- A session that is up forgets nothing.
-use Rattle.std.proofs.Common.{◌≡◌, ◌++◌, List, [], ◌∷◌, Option, None, Some, Result, Ok, Err, true, false, refl, arith, sym, ap}
+use Rattle.std.proofs.Common.{◌≡◌, ◌++◌, List, [], Option, None, Some, Result, Ok, Err, true, false, refl, arith, sym}
 use Rattle.std.specs.Prelude.{ℕ, ℤ, length}
 use Rattle.std.proofs.lemmas.List.{append-nil}
 use Rattle.fix_fields.specs.declared.field.Field.{Field}
@@ -12,19 +12,17 @@ use Rattle.session_core.specs.declared.state.Phase.{Phase}
 use Rattle.session_core.specs.declared.state.Phase.TheVariants.{New, Up, Ended}
 use Rattle.session_core.specs.declared.plan.Span.{Span}
 use Rattle.session_core.specs.declared.plan.Plan.{Plan}
-use Rattle.session_core.specs.declared.runs.Input.{Input}
 use Rattle.session_core.specs.declared.runs.Input.TheVariants.{Connection, Frame, TooLong, Tick, Send, Reject}
 use Rattle.session_core.specs.Lookup.{message_number}
 use Rattle.session_core.specs.Content.{content_of}
 use Rattle.session_core.specs.Tables.{failed_of}
 use Rattle.session_core.specs.State.{is_up, is_up_phase, is_over, heard}
 use Rattle.session_core.specs.Answers.{logs_out, drops, rejects, unless_failed, drops_wrong_name}
-use Rattle.session_core.specs.Resend.{resends, on_resend_request, then_asks_again}
+use Rattle.session_core.specs.Resend.{resends, on_resend_request}
 use Rattle.session_core.specs.Sequence.{sets_next, on_reset, on_logout, too_low, too_early, answers_test, by_type, in_turn, by_number, when_up}
-use Rattle.session_core.specs.Cases.{on_message, on_no_number, on_too_long, on_tick}
+use Rattle.session_core.specs.Cases.{on_message, on_too_long, on_tick}
 use Rattle.session_core.specs.Frames.{numbers_of}
 use Rattle.session_core.specs.Machine.{Machine, on_frame, on_fields, on_clock, on_overlong, on_send, on_reject, carried_out, plan_for, incoming}
-use Rattle.session_core.specs.Runs.{outcome_of}
 use Rattle.session_core.specs.Laws.{SentStays}
 
 -- ---- no plan of a session that is up forgets what was sent

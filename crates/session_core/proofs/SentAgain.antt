@@ -2,7 +2,7 @@
 use Rattle.std.proofs.Common.{◌≡◌, ℕ, ◌+◌, List, [], ◌∷◌, ◌++◌, Option, Some, None, refl, ap, sym, ◌∙◌}
 use Rattle.std.specs.Prelude.{map, unwrap_or, ℤ}
 use Rattle.session_core.specs.declared.message.Kept.{Kept}
-use Rattle.session_core.specs.Resent.{Resent, Again, Gap, with_run, resent, resent_frame, gap_before, frames_at, run_behind, frames_from}
+use Rattle.session_core.specs.Resent.{Resent, Again, Gap, with_run, resent, resent_frame, frames_at, frames_from}
 
 -- a run that has begun goes on into what comes behind it
 abbrev pub after_run : Option ℕ → ℕ → List Resent → List Resent

@@ -1,5 +1,5 @@
 -- What each frame and each tick asks of a session that has not ended. The first case that fits decides.
-use Rattle.std.specs.Prelude.{ℕ, ◌*◌, ◌==◌, Bool, not, ◌&&◌, if◌then◌else◌, List, [], ◌∷◌, Option, Some, None, codes, ℤ, pos, ◌-ℤ◌, int_le, true}
+use Rattle.std.specs.Prelude.{ℕ, ◌*◌, ◌==◌, Bool, not, ◌&&◌, if◌then◌else◌, List, [], ◌∷◌, codes, ℤ, pos, ◌-ℤ◌, int_le, true}
 use Rattle.fix_write.specs.declared.tags.TheConstants.{SENDER_COMP_ID, TARGET_COMP_ID}
 use Rattle.session_core.specs.declared.message.Incoming.{Incoming}
 use Rattle.session_core.specs.declared.state.EndCause.TheVariants.{NoNumber, Silent, TooLong}

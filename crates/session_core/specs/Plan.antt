@@ -6,7 +6,6 @@ use Rattle.session_core.specs.declared.message.Message.{Message}
 use Rattle.session_core.specs.declared.state.State.{State}
 use Rattle.session_core.specs.State.{is_up}
 use Rattle.session_core.specs.declared.plan.Span.{Span}
-use Rattle.session_core.specs.declared.plan.RequestHead.{RequestHead}
 use Rattle.session_core.specs.declared.plan.Plan.{Plan}
 
 -- some messages are sent

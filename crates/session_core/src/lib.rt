@@ -1,31 +1,32 @@
-//! The session layer of FIX: what each frame, tick and report makes of a member's session.
+//! The session layer of FIX: what each frame, tick and report makes of a member's session. It is a pure machine: moments
+//! and bytes come in as values, and frames go out as values.
 #![tactic(auto)]
 
 mod answers;
 mod bodies;
 mod cases;
-pub mod checks;
+mod checks;
 mod content;
 mod frames;
 pub mod laws;
 mod logon;
 pub mod lookup;
-pub mod message;
+mod message;
 pub mod message_types;
 mod plan;
 pub mod reasons;
 mod resend;
 mod resent;
-pub mod runs;
+mod runs;
 mod sequence;
-pub mod session;
-pub mod state;
-pub mod tables;
+mod session;
+mod state;
+mod tables;
 pub mod tags;
-pub mod turn;
+mod turn;
 
 pub use checks::{FailedCheck, Form, Item, first_failed};
-pub use message::{Message, Request};
+pub use message::{Kept, Message, Request};
 pub use runs::Input;
 pub use session::Session;
 pub use state::{EndCause, Phase, State};

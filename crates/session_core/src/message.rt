@@ -10,7 +10,7 @@ use venue_words::{Bytes, Items, NoMemory};
 
 /// A message that was received, with its number.
 #[derive(Debug, Drop)]
-pub struct Incoming {
+pub(crate) struct Incoming {
     /// MsgSeqNum(34).
     pub number: u32,
     /// The byte of MsgType(35) where it has exactly one, and else 0.
@@ -65,7 +65,7 @@ pub struct Kept {
 /// What is kept under the number of a message that was sent: an application message whole, and of a message of the
 /// session nothing, so that it costs little.
 #[derive(Debug, Drop)]
-pub struct Entry(Option<Box<Kept>>);
+pub(crate) struct Entry(Option<Box<Kept>>);
 
 impl Model for Entry {
     ghost use Rattle.std.specs.Prelude.{Option, option_map};

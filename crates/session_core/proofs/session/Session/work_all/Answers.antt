@@ -1,5 +1,5 @@
 -- Behind the last input no more answers follow.
-use Rattle.std.proofs.Common.{◌≡◌, ◌++◌, List, Result, [], drop, length, refl, arith, subst, sym}
+use Rattle.std.proofs.Common.{◌≡◌, ◌++◌, [], drop, refl, arith}
 use Rattle.std.proofs.lemmas.List.{drop_all, append-nil}
 use Rattle.session_core.specs.Runs.{Follows}
 use Rattle.session_core.proofs.session.Session.work_all.Goals as goal

@@ -1,5 +1,5 @@
 -- The answers so far lead to the session as it is, and there is room for the rest.
-use Rattle.std.proofs.Common.{◌≡◌, ◌+◌, ◌-◌, ◌≤◌, ◌++◌, List, Result, drop, length, vec_len}
+use Rattle.std.proofs.Common.{◌+◌, ◌-◌, ◌≤◌, ◌++◌, List, Result, drop, length, vec_len}
 use Rattle.std.specs.Prelude.{vec_capacity}
 use Rattle.venue_words.specs.declared.refusal.NoMemory.{NoMemory}
 use Rattle.session_core.specs.declared.turn.Turn.{Turn}
