@@ -48,7 +48,9 @@ entered taker immediate own others =
 abbrev pub leftover_notice : ℕ → List Order → List Notice
 leftover_notice number orders =
     option_to_list
-    (option_map (λ order. record { member = order.member; kind = Canceled (view_closed order) None }) (slice_get orders number))
+    (option_map
+    (λ order. record { member = order.member; kind = Canceled (view_closed order) None })
+    (slice_get orders number))
 
 -- what is left of an order that stays only to trade at once is canceled
 unfoldable pub leftover_notices : Bool → List Priced → List Order → List Notice

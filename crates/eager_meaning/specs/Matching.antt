@@ -1,5 +1,5 @@
 -- The trades of one taker, and what they leave of the rows.
-use Rattle.std.specs.Prelude.{ℕ, ◌-◌, Bool, ◌||◌, nat_lt, ◌==◌, if◌then◌else◌, List, [], ◌∷◌, map, filter, find, unwrap_or}
+use Rattle.std.specs.Prelude.{ℕ, ◌-◌, ◌||◌, nat_lt, ◌==◌, if◌then◌else◌, List, [], map, filter, find, unwrap_or}
 use Rattle.std.specs.Option.{option_map_or}
 use Rattle.venue_words.specs.declared.row.Priced.{Priced}
 use Rattle.venue_words.specs.Price.{price_shown}
@@ -7,7 +7,7 @@ use Rattle.venue_words.specs.Priority.{in_priority, is_older}
 use Rattle.eager_meaning.specs.declared.trade.Fill.{Fill}
 use Rattle.eager_meaning.specs.declared.trade.Party.{Party}
 use Rattle.eager_meaning.specs.declared.trade.Take.{Take}
-use Rattle.eager_meaning.specs.Walk.{walk, total_of, stands}
+use Rattle.eager_meaning.specs.Walk.{walk, stands}
 
 -- each contra that trades, in priority order, with its shares; none where the walk does not stand
 unfoldable pub takes_of : Priced → List Priced → List Take

@@ -41,7 +41,8 @@ within low high number = then_some (int_le low number && int_le number high) num
 
 -- a whole number of shares from 1 to 999,999,999
 unfoldable pub quantity_in : ℤ → Option ℕ
-quantity_in amount = option_map unsigned_abs (option_and_then (within (pos 1) (pos 999999999)) (whole_quotient ONE_AMOUNT amount))
+quantity_in amount =
+    option_map unsigned_abs (option_and_then (within (pos 1) (pos 999999999)) (whole_quotient ONE_AMOUNT amount))
 
 -- a price from 0.01 to 19,999.99 in units, where it is a whole number of ticks
 unfoldable pub price_in : ℕ → ℤ → Option ℕ

@@ -1,5 +1,5 @@
 -- What trades make of the orders, and what the two orders of each are told.
-use Rattle.std.specs.Prelude.{ℕ, ◌+◌, ◌*◌, List, [], ◌∷◌, ◌++◌, fold, slice_get, option_map, option_to_list}
+use Rattle.std.specs.Prelude.{◌+◌, ◌*◌, List, [], ◌∷◌, ◌++◌, fold, slice_get, option_map, option_to_list}
 use Rattle.venue_words.specs.declared.report.Kind.TheVariants.{Traded}
 use Rattle.eager_meaning.specs.declared.trade.Fill.{Fill}
 use Rattle.eager_meaning.specs.declared.trade.Party.{Party}

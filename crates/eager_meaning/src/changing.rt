@@ -6,22 +6,13 @@ ghost use Rattle.eager_meaning.specs.Orders.{changed_at};
 ghost use Rattle.eager_meaning.specs.Entering.{enter};
 ghost use Rattle.eager_meaning.specs.Changing.{refusal, without, cancel, on_cancel, replaced_order, with_replaced, only_lowers, with_leaves, resize, arrival_of_replace, on_replace};
 
-use crate::notice::Notice;
+use crate::notice::{Notice, one_notice};
 use crate::order::{Live, Order};
 use crate::plain::Plain;
 use crate::showing::{live_state, view_closed, view_of};
 use crate::terms::{is_immediate, is_pegged, limit_of, quantity_of, row_of};
 use std::alloc::{AllocError, Global};
 use venue_words::{Bytes, Kind, Method, Priced, Row, Rule, Terms, same_key};
-
-/// One notice.
-pub fn told(alloc: Global, member: u32, kind: Kind) -> Result<Vec<Notice>, AllocError>
-    ensures { IfOk result (λ notices. notices.items ≡ record { member = member; kind = kind } ∷ []) }
-{
-    let mut notices = Vec::new(alloc);
-    notices.push(Notice { member, kind })?;
-    Ok(notices)
-}
 
 /// A refusal of a cancel or of a replace.
 fn refusal(
@@ -123,7 +114,8 @@ fn replace_order(
     number: u32,
 ) -> Result<(), AllocError>
     requires { IsTick tick }
-    ensures { IfOk result (λ _. orders.new.items ≡ changed_at (replaced_order tick id.now terms.now) number orders.old.items) }
+    ensures { IfOk result (λ _. orders.new.items
+        ≡ changed_at (replaced_order tick id.now terms.now) number orders.old.items) }
 {
     let k = number as usize;
     if k < orders.len() {
@@ -171,7 +163,8 @@ impl Plain {
         live: &Live,
     ) -> Result<Vec<Notice>, AllocError>
         ensures state { IfOk result (λ _. self.new ≡ (cancel member id.now orig.now live.now self.old).state) }
-        ensures notices { IfOk result (λ notices. notices.items ≡ (cancel member id.now orig.now live.now self.old).notices) }
+        ensures notices { IfOk result (λ notices. notices.items
+            ≡ (cancel member id.now orig.now live.now self.old).notices) }
     {
         let mut view = view_closed(alloc, &live.order)?;
         view.id = Bytes::copy_of(alloc, id.as_slice())?;
@@ -180,7 +173,7 @@ impl Plain {
         self.used.push((member, copy))?;
         self.buys = without(alloc, live.row.row.entry, &self.buys)?;
         self.sells = without(alloc, live.row.row.entry, &self.sells)?;
-        told(
+        one_notice(
             alloc,
             member,
             Kind::Canceled {
@@ -202,12 +195,13 @@ impl Plain {
         broken: Option<Rule>,
     ) -> Result<Vec<Notice>, AllocError>
         ensures state { IfOk result (λ _. self.new ≡ (on_cancel member id.now orig.now live.now broken self.old).state) }
-        ensures notices { IfOk result (λ notices. notices.items ≡ (on_cancel member id.now orig.now live.now broken self.old).notices) }
+        ensures notices { IfOk result (λ notices. notices.items
+            ≡ (on_cancel member id.now orig.now live.now broken self.old).notices) }
     {
         match (broken, live) {
             (Some(rule), live) => {
                 let kind = refusal(alloc, b'1', id, orig, live, rule)?;
-                told(alloc, member, kind)
+                one_notice(alloc, member, kind)
             }
             (None, Some(found)) => self.cancel(alloc, member, id, orig, found),
             (None, None) => Ok(Vec::new(alloc)),
@@ -246,8 +240,10 @@ impl Plain {
         live: &Live,
     ) -> Result<Vec<Notice>, AllocError>
         requires { IsTick tick }
-        ensures state { IfOk result (λ _. self.new ≡ (resize tick member id.now orig.now terms.now live.now self.old).state) }
-        ensures notices { IfOk result (λ notices. notices.items ≡ (resize tick member id.now orig.now terms.now live.now self.old).notices) }
+        ensures state { IfOk result (λ _. self.new
+            ≡ (resize tick member id.now orig.now terms.now live.now self.old).state) }
+        ensures notices { IfOk result (λ notices. notices.items
+            ≡ (resize tick member id.now orig.now terms.now live.now self.old).notices) }
     {
         let order = replaced_order(alloc, tick, id, terms, &live.order)?;
         let leaves = order.quantity.saturating_sub(order.cum);
@@ -257,7 +253,7 @@ impl Plain {
         self.set_terms(alloc, tick, member, id, terms, live)?;
         self.buys = all_with_leaves(alloc, entry, leaves, &self.buys)?;
         self.sells = all_with_leaves(alloc, entry, leaves, &self.sells)?;
-        told(alloc, member, Kind::Replaced { view, orig })
+        one_notice(alloc, member, Kind::Replaced { view, orig })
     }
 
     /// A live order leaves and enters anew.
@@ -274,8 +270,10 @@ impl Plain {
         live: &Live,
     ) -> Result<Vec<Notice>, AllocError>
         requires { IsTick tick }
-        ensures state { IfOk result (λ _. self.new ≡ (enter (arrival_of_replace tick event member id.now orig.now terms.now live.now self.old)).state) }
-        ensures notices { IfOk result (λ notices. notices.items ≡ (enter (arrival_of_replace tick event member id.now orig.now terms.now live.now self.old)).notices) }
+        ensures state { IfOk result (λ _. self.new
+            ≡ (enter (arrival_of_replace tick event member id.now orig.now terms.now live.now self.old)).state) }
+        ensures notices { IfOk result (λ notices. notices.items
+            ≡ (enter (arrival_of_replace tick event member id.now orig.now terms.now live.now self.old)).notices) }
     {
         let x = self.priced_now(row_of(tick, event, live.number, member, live.order.cum, terms));
         let order = replaced_order(alloc, tick, id, terms, &live.order)?;
@@ -310,13 +308,15 @@ impl Plain {
         broken: Option<Rule>,
     ) -> Result<Vec<Notice>, AllocError>
         requires { IsTick tick }
-        ensures state { IfOk result (λ _. self.new ≡ (on_replace tick event member id.now orig.now terms.now live.now broken self.old).state) }
-        ensures notices { IfOk result (λ notices. notices.items ≡ (on_replace tick event member id.now orig.now terms.now live.now broken self.old).notices) }
+        ensures state { IfOk result (λ _. self.new
+            ≡ (on_replace tick event member id.now orig.now terms.now live.now broken self.old).state) }
+        ensures notices { IfOk result (λ notices. notices.items
+            ≡ (on_replace tick event member id.now orig.now terms.now live.now broken self.old).notices) }
     {
         match (broken, live) {
             (Some(rule), live) => {
                 let kind = refusal(alloc, b'2', id, orig, live, rule)?;
-                told(alloc, member, kind)
+                one_notice(alloc, member, kind)
             }
             (None, Some(found)) => {
                 if only_lowers(tick, terms, found) {

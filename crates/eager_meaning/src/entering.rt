@@ -4,9 +4,8 @@ ghost use Rattle.venue_words.specs.Conditions.{IsTick};
 ghost use Rattle.eager_meaning.specs.Matching.{unfilled};
 ghost use Rattle.eager_meaning.specs.Entering.{entered, leftover_notice, leftover_notices, enter, priced_now, accepted_order, with_accepted, arrival_of_new, on_new};
 
-use crate::changing::told;
 use crate::matching::{fills_of, row_after, rows_after, takes_of};
-use crate::notice::Notice;
+use crate::notice::{Notice, one_notice};
 use crate::order::Order;
 use crate::pegging::{best_of, value_under};
 use crate::plain::Plain;
@@ -32,7 +31,8 @@ impl Model for Entering {
 
     ghost Value = { Entered };
 
-    ghost view = { λ e. record { own = e.own.items; others = e.others.items; fills = e.fills.items; left = e.left.items } };
+    ghost view = { λ e.
+        record { own = e.own.items; others = e.others.items; fills = e.fills.items; left = e.left.items } };
 }
 
 /// A row where it has shares left.
@@ -147,8 +147,10 @@ impl Plain {
         immediate: bool,
         notice: Notice,
     ) -> Result<Vec<Notice>, AllocError>
-        ensures state { IfOk result (λ _. self.new ≡ (enter (record { taker = taker; immediate = immediate; state = self.old; notice = notice })).state) }
-        ensures notices { IfOk result (λ notices. notices.items ≡ (enter (record { taker = taker; immediate = immediate; state = self.old; notice = notice })).notices) }
+        ensures state { IfOk result (λ _. self.new
+            ≡ (enter (record { taker = taker; immediate = immediate; state = self.old; notice = notice })).state) }
+        ensures notices { IfOk result (λ notices. notices.items
+            ≡ (enter (record { taker = taker; immediate = immediate; state = self.old; notice = notice })).notices) }
     {
         let mut notices = Vec::new(alloc);
         notices.push(notice)?;
@@ -220,8 +222,10 @@ impl Plain {
         terms: &Terms,
     ) -> Result<Vec<Notice>, AllocError>
         requires { IsTick tick }
-        ensures state { IfOk result (λ _. self.new ≡ (enter (arrival_of_new tick event member id.now terms.now self.old)).state) }
-        ensures notices { IfOk result (λ notices. notices.items ≡ (enter (arrival_of_new tick event member id.now terms.now self.old)).notices) }
+        ensures state { IfOk result (λ _. self.new
+            ≡ (enter (arrival_of_new tick event member id.now terms.now self.old)).state) }
+        ensures notices { IfOk result (λ notices. notices.items
+            ≡ (enter (arrival_of_new tick event member id.now terms.now self.old)).notices) }
     {
         let number = u32::try_from(self.orders.len()).map_err(|_| AllocError)?;
         let order = accepted_order(alloc, tick, event, member, id, terms)?;
@@ -253,7 +257,8 @@ impl Plain {
     ) -> Result<Vec<Notice>, AllocError>
         requires { IsTick tick }
         ensures state { IfOk result (λ _. self.new ≡ (on_new tick event member id.now terms.now broken self.old).state) }
-        ensures notices { IfOk result (λ notices. notices.items ≡ (on_new tick event member id.now terms.now broken self.old).notices) }
+        ensures notices { IfOk result (λ notices. notices.items
+            ≡ (on_new tick event member id.now terms.now broken self.old).notices) }
     {
         match broken {
             Some(rule) => {
@@ -263,7 +268,7 @@ impl Plain {
                     quantity: terms.quantity,
                     rule,
                 };
-                told(alloc, member, kind)
+                one_notice(alloc, member, kind)
             }
             None => self.accept(alloc, tick, event, member, id, terms),
         }

@@ -3,8 +3,7 @@ ghost use Rattle.std.specs.Prelude.{◌≡◌, ◌++◌, ◌<◌, IfOk, length, 
 ghost use Rattle.venue_words.specs.Conditions.{IsTick};
 ghost use Rattle.eager_meaning.specs.Step.{reports_from, runs};
 
-use crate::changing::told;
-use crate::notice::Notice;
+use crate::notice::{Notice, one_notice};
 use crate::order::{Live, Order};
 use crate::orders::{is_used, known_of, live_named, order_named};
 use crate::rules::verdict;
@@ -28,7 +27,14 @@ impl Model for Plain {
 
     ghost Value = { State };
 
-    ghost view = { λ p. record { markets = p.markets.items; buys = p.buys.items; sells = p.sells.items; orders = p.orders.items; used = p.used.items } };
+    ghost view = { λ p.
+        record {
+          markets = p.markets.items;
+          buys = p.buys.items;
+          sells = p.sells.items;
+          orders = p.orders.items;
+          used = p.used.items;
+        } };
 }
 
 /// The rows of both sides.
@@ -92,7 +98,7 @@ impl Plain {
                 side,
             },
         };
-        told(alloc, member, kind)
+        one_notice(alloc, member, kind)
     }
 
     /// What a command does at an event.
@@ -201,7 +207,8 @@ pub fn plain_run(
 ) -> Result<Vec<Report>, NoMemory>
     requires known { symbol < length config.now.ticks }
     requires tick { IsTick (slice_index config.now.ticks symbol) }
-    ensures { IfOk result (λ reports. reports.items ≡ (runs (length config.now.markets) (slice_index config.now.ticks symbol) events.now).reports) }
+    ensures { IfOk result (λ reports. reports.items
+        ≡ (runs (length config.now.markets) (slice_index config.now.ticks symbol) events.now).reports) }
 {
     let tick = config.ticks.as_slice()[symbol as usize];
     Ok(run(alloc, config.markets.len(), tick, events)?)

@@ -71,7 +71,8 @@ pub fn push_trade_notices(
     fills: &[Fill],
     orders: &mut Vec<Order>,
 ) -> Result<(), AllocError>
-    ensures notices { IfOk result (λ _. notices.new.items ≡ notices.old.items ++ trade_notices fills.now orders.old.items) }
+    ensures notices { IfOk result (λ _. notices.new.items
+        ≡ notices.old.items ++ trade_notices fills.now orders.old.items) }
     ensures orders { IfOk result (λ _. orders.new.items ≡ orders_after_all fills.now orders.old.items) }
 {
     for fill in fills {

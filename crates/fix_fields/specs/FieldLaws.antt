@@ -6,7 +6,6 @@ use Rattle.std.specs.Fmt.{digits}
 use Rattle.std.specs.List.{position, list_any, starts_with}
 use Rattle.std.proofs.lemmas.Bool.{cases_lt, eqb-true, and_parts, or_parts}
 use Rattle.std.proofs.Math.Seq.{take-add}
-use Rattle.std.proofs.lemmas.Bool.Decides.{nat_tests}
 use Rattle.std.proofs.lemmas.List.{take-append-drop, take_at, drop_at, drop_more, get_or_past, length-take-le, drop-drop, get_or_at, get_or-append-add}
 use Rattle.std.proofs.lemmas.List.Folds.{list_any-append}
 use lib.Pointwise.{bytes_decides}

@@ -87,3 +87,29 @@ zero_count = early_count 3652365 (lit≤ tt) (lit< tt) (lit< tt)
 -- the day number of 0000-01-01
 pub zero_day : days_from_civil (pos 0) 1 1 +ℤ pos 719528 ≡ pos 0
 zero_day = omega (arith, signed_arith, days_from_civil-day_count (pos 0) 1 1, zero_count)
+
+-- the calendar has the date that is computed
+pub civil_valid : (day : ℕ) → day < 3652425 → IsCivilDate (pos (civil_of day).year) (civil_of day).month (civil_of day).day
+unfolding civil_of
+civil_valid day h =
+    elim (cases_lt 12 (march_month (day + 3652365))) [
+      | inl early ↦
+          let test : leb (march_month (day + 3652365)) 12 ≡ false = grind arith in
+          rw test (early_valid (day + 3652365) (omega arith) (omega arith) early)
+      | inr late ↦
+          let test : leb (march_month (day + 3652365)) 12 ≡ true = le-leb _ _ late in
+          rw test (late_valid (day + 3652365) (omega arith) (omega arith) late)
+    ]
+
+-- and it has that day's number
+pub civil_count : (day : ℕ) → day < 3652425 → day_count (pos (civil_of day).year) (civil_of day).month (civil_of day).day ≡ day + 3652425
+unfolding civil_of
+civil_count day h =
+    elim (cases_lt 12 (march_month (day + 3652365))) [
+      | inl early ↦
+          let test : leb (march_month (day + 3652365)) 12 ≡ false = grind arith in
+          rw test (omega (arith, early_count (day + 3652365) (omega arith) (omega arith) early))
+      | inr late ↦
+          let test : leb (march_month (day + 3652365)) 12 ≡ true = le-leb _ _ late in
+          rw test (omega (arith, late_count (day + 3652365) (omega arith) (omega arith) late))
+    ]

@@ -13,11 +13,11 @@ unfolding field
 length-field tag value =
     omega (arith, length-append (decimal tag ++ codes "=" ++ value) (1 ∷ []), length-append (decimal tag ++ codes "=") value, length-append (decimal tag) (codes "="))
 
-length-date_text : (day : ℕ) → length (date_text day) ≡ 8
+pub length-date_text : (day : ℕ) → length (date_text day) ≡ 8
 unfolding date_text four_digits two_digits
 length-date_text day = refl
 
-length-clock_text : (millisecond : ℕ) → length (clock_text millisecond) ≡ 12
+pub length-clock_text : (millisecond : ℕ) → length (clock_text millisecond) ≡ 12
 unfolding clock_text three_digits two_digits
 length-clock_text millisecond = refl
 

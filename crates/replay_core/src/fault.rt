@@ -5,6 +5,7 @@ ghost use Rattle.replay_core.specs.declared.fault.Fault.TheVariants.{NoMemory as
 
 use script_text::{LimitCause, LineCause, LineFault};
 use std::alloc::AllocError;
+use venue_words::NoMemory;
 
 /// Why a line of a script was not worked. Lines are counted from 1.
 #[derive(Clone, Copy, Debug, PartialEq, Eq)]
@@ -34,6 +35,14 @@ impl From<AllocError> for Fault {
     ghost from_gives = { λ _ fault. fault ≡ memory };
 
     fn from(_error: AllocError) -> Fault {
+        Fault::NoMemory
+    }
+}
+
+impl From<NoMemory> for Fault {
+    ghost from_gives = { λ _ fault. fault ≡ memory };
+
+    fn from(_error: NoMemory) -> Fault {
         Fault::NoMemory
     }
 }

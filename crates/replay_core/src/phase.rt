@@ -26,7 +26,7 @@ pub fn turn(alloc: Global, phase: Phase, line: u32, text: &[u8]) -> Result<(Phas
     match phase {
         Phase::Head(mut header) => {
             if header.line(alloc, line, text)? {
-                let player = Player::new(header.config, line);
+                let player = Player::new(alloc, header.config, line)?;
                 Ok((Phase::Body(player), Vec::new(alloc)))
             } else {
                 Ok((Phase::Head(header), Vec::new(alloc)))

@@ -135,7 +135,7 @@ fn play_line<K: Sink>(reader: Reader, part: &[u8], out: &mut K) -> Result<Reader
             Ok(()) => Ok(next),
             Err(_) => Err(Status::WriteFault),
         },
-        Err(fault) => Err(status_of(fault)),
+        Err(refused) => Err(status_of(refused)),
     }
 }
 

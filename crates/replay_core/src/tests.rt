@@ -111,6 +111,38 @@ fn headers_are_read_in_any_pieces(rt: HostRuntime) -> Result<(), Fail> {
     Ok(())
 }
 
+const LOGON: &str = "|56=PEGV|34=1|52=20240102-14:30:00|98=0|108=30|1137=9|\n";
+
+/// The script of a trade between two cents, and its transcript.
+fn first_trade(alloc: Global) -> Result<(String, &'static str), AllocError> {
+    let script = format!(in alloc;
+        "PEGV 1\nMEMBER A\nMEMBER B\nMARKET N\nSYMBOL X 100\nBEGIN 20240102-14:30:00.000\nM A 35=A|49=A{LOGON}M B 35=A|49=B{LOGON}Q X N 10.00 10.01\nM A 35=D|49=A|56=PEGV|34=2|52=20240102-14:30:00|11=a1|55=X|54=1|38=100|40=P|1094=2|60=20240102-14:30:00|\nM B 35=D|49=B|56=PEGV|34=2|52=20240102-14:30:00|11=b1|55=X|54=2|38=100|40=P|1094=2|60=20240102-14:30:00|\n"
+    )?;
+    Ok((script, TRADE))
+}
+
+const TRADE: &str =
+    "A 8=FIXT.1.1|9=67|35=A|49=PEGV|56=A|34=1|52=20240102-14:30:00.000|98=0|108=30|1137=9|10=234|
+B 8=FIXT.1.1|9=67|35=A|49=PEGV|56=B|34=1|52=20240102-14:30:00.000|98=0|108=30|1137=9|10=235|
+A 8=FIXT.1.1|9=169|35=8|49=PEGV|56=A|34=2|52=20240102-14:30:00.000|37=X-2|11=a1|17=X-2-1|150=0|39=0|55=X|54=1|38=100|40=P|151=100|14=0|6=0.0000|60=20240102-14:30:00.000|839=10.0050|9701=2|10=223|
+A 8=FIXT.1.1|9=169|35=8|49=PEGV|56=A|34=3|52=20240102-14:30:00.000|37=X-2|11=a1|17=X-3-3|150=F|39=2|55=X|54=1|38=100|40=P|32=100|31=10.0050|151=0|14=100|6=10.0050|60=20240102-14:30:00.000|10=228|
+B 8=FIXT.1.1|9=169|35=8|49=PEGV|56=B|34=2|52=20240102-14:30:00.000|37=X-3|11=b1|17=X-3-1|150=0|39=0|55=X|54=2|38=100|40=P|151=100|14=0|6=0.0000|60=20240102-14:30:00.000|839=10.0050|9701=3|10=229|
+B 8=FIXT.1.1|9=169|35=8|49=PEGV|56=B|34=3|52=20240102-14:30:00.000|37=X-3|11=b1|17=X-3-2|150=F|39=2|55=X|54=2|38=100|40=P|32=100|31=10.0050|151=0|14=100|6=10.0050|60=20240102-14:30:00.000|10=231|
+";
+
+#[test]
+fn two_mid_price_orders_trade_between_two_cents(rt: HostRuntime) -> Result<(), Fail> {
+    let alloc = rt.alloc();
+    let (script, trade) = first_trade(alloc)?;
+    for piece in [1usize, 7, 4096] {
+        let (got, out, err) = played(alloc, script.as_str(), piece)?;
+        assert!(rt; got == Status::Done);
+        assert_eq!(rt; out.bytes(), trade.as_bytes());
+        assert_eq!(rt; err.bytes(), b"".as_slice());
+    }
+    Ok(())
+}
+
 #[test]
 fn words_that_name_no_script_are_refused(rt: HostRuntime) -> Result<(), Fail> {
     let alloc = rt.alloc();

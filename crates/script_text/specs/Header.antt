@@ -11,7 +11,8 @@ use Rattle.script_text.specs.declared.fault.LineCause.TheVariants.{NoEnd, BadHea
 use Rattle.script_text.specs.declared.fault.LimitCause.{LimitCause}
 use Rattle.script_text.specs.declared.fault.LimitCause.TheVariants.{Line, Members, Markets, Symbols, EventsSum}
 use Rattle.venue_words.specs.Conditions.{most_events}
-use Rattle.script_text.specs.Words.{words_of, is_name, limit_of, tick_of, script_moment}
+use Rattle.quote_intake.specs.Words.{words_of}
+use Rattle.script_text.specs.Words.{is_name, limit_of, tick_of, script_moment}
 
 -- whether the header is complete with this line, and what it says by then
 abbrev pub Step : Type 0

@@ -1,19 +1,13 @@
--- The words of a header line.
-use Rattle.std.specs.Prelude.{◌≡◌, ℕ, ◌+◌, ◌-◌, ◌*◌, ◌&&◌, ◌||◌, ◌==◌, Bool, true, false, not, List, [], ◌∷◌, length, Option, Some, None, nat_lt, nat_le, fold, if◌then◌else◌, codes, slice_index, drop, ℤ, pos}
-use Rattle.std.specs.List.{list_all, slice_split}
+-- The forms of the words of a header.
+use Rattle.std.specs.Prelude.{◌≡◌, ℕ, ◌+◌, ◌-◌, ◌*◌, ◌&&◌, ◌||◌, ◌==◌, Bool, true, false, not, List, [], ◌∷◌, length, Option, Some, None, nat_lt, nat_le, option_and_then, if◌then◌else◌, codes, slice_index, drop, ℤ, pos}
+use Rattle.std.specs.List.{list_all}
 use Rattle.std.specs.Str.{bytes_eq}
 use Rattle.venue_words.specs.Conditions.{most_events}
+use Rattle.quote_intake.specs.Price.{is_digit, digits_of}
 use Rattle.fix_fields.specs.Forms.{moment_of}
-
--- the words of a line are parted by one space
-abbrev pub words_of : List ℕ → List (List ℕ)
-words_of line = slice_split (λ b. b == 32) line
 
 unfoldable pub is_letter : ℕ → Bool
 is_letter b = (nat_le 65 b && nat_le b 90) || (nat_le 97 b && nat_le b 122)
-
-abbrev pub is_digit : ℕ → Bool
-is_digit b = nat_le 48 b && nat_le b 57
 
 -- a letter, a digit, a point or an underscore
 unfoldable pub is_name_byte : ℕ → Bool
@@ -24,15 +18,11 @@ unfoldable pub is_name : List ℕ → Bool
 is_name text = nat_lt 0 (length text) && (nat_le (length text) 16
     && (is_letter (slice_index text 0) && list_all is_name_byte text))
 
--- the number that digits write
-abbrev pub number_of : List ℕ → ℕ
-number_of text = fold (λ n d. n * 10 + (d - 48)) 0 text
-
 -- a number from 1 to 2,097,152, without a leading zero
 unfoldable pub limit_of : List ℕ → Option ℕ
-limit_of text = if nat_lt 0 (length text) && (nat_le (length text) 7
-    && (not (slice_index text 0 == 48) && (list_all is_digit text && nat_le (number_of text) most_events)))
-    then Some (number_of text) else None
+limit_of text =
+    if (length text == 0) || (nat_lt 7 (length text) || (slice_index text 0 == 48)) then None
+    else option_and_then (λ limit. if nat_le limit most_events then Some limit else None) (digits_of text)
 
 -- the units of a tick
 unfoldable pub tick_of : List ℕ → Option ℕ

@@ -12,3 +12,6 @@ pub use config::read_header;
 pub use escaping::{escape, push_escaped_text};
 pub use fault::{LimitCause, LineCause, LineFault};
 pub use header::{Header, MAX_LINE_BYTES};
+
+#[cfg(test)]
+mod tests;

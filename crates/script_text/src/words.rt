@@ -1,33 +1,15 @@
 //! The words of a line, and the forms that they may have.
 ghost use Rattle.std.specs.Prelude.{◌≡◌, ◌<◌, ◌≤◌, ◌^◌, ◌==◌, ◌+◌, ◌∷◌, [], map, take, drop, IfOk, IfSome, IfNone, length, position};
 ghost use Rattle.std.specs.List.{list_all};
-ghost use Rattle.script_text.specs.Words.{words_of, is_name, limit_of, tick_of, script_moment, is_letter, is_digit, is_name_byte};
+ghost use Rattle.quote_intake.specs.Words.{words_of};
+ghost use Rattle.script_text.specs.Words.{is_name, limit_of, tick_of, script_moment, is_letter, is_name_byte};
 
 use fix_fields::moment;
+use quote_intake::{digits, first_space};
 use std::alloc::{AllocError, Global};
 
 /// The greatest number of events of a symbol, and of all symbols.
 pub const MAX_EVENTS: u32 = 2_097_152;
-
-fn space_at(text: &[u8]) -> Option<usize>
-    ensures place { result ≡ position (λ b. b == 32) text.now }
-    ensures within { IfSome result (λ at. at < length text.now) }
-{
-    text.iter().position(|b| *b == b' ')
-}
-
-/// The place of the first space.
-#[tactic(auto, using(crate::proofs::Spaces::cut_at, crate::proofs::Spaces::cut_none))]
-fn first_space(text: &[u8]) -> Option<usize>
-    ensures found { IfSome result (λ at. words_of text.now ≡ take at text.now ∷ words_of (drop (at + 1) text.now)) }
-    ensures none { IfNone result (words_of text.now ≡ text.now ∷ []) }
-    ensures within { IfSome result (λ at. (at < length text.now) × (at + 1 < 2 ^ 64)) }
-{
-    match space_at(text) {
-        Some(at) => Some(at),
-        None => None,
-    }
-}
 
 /// The words of a line, which are parted by one space.
 pub fn words_of<'a>(alloc: Global, line: &'a [u8]) -> Result<Vec<&'a [u8]>, AllocError>
@@ -50,17 +32,11 @@ fn is_letter(b: u8) -> bool
     (b'A' <= b && b <= b'Z') || (b'a' <= b && b <= b'z')
 }
 
-fn is_digit(b: u8) -> bool
-    ensures { result ≡ is_digit b }
-{
-    b'0' <= b && b <= b'9'
-}
-
 #[tactic(auto, unfolding(crate::specs::Words::is_name_byte))]
 fn is_name_byte(b: u8) -> bool
     ensures { result ≡ is_name_byte b }
 {
-    is_letter(b) || (is_digit(b) || (b == b'.' || b == b'_'))
+    is_letter(b) || (b.is_ascii_digit() || (b == b'.' || b == b'_'))
 }
 
 fn are_name_bytes(text: &[u8]) -> bool
@@ -90,13 +66,7 @@ pub fn limit_of(text: &[u8]) -> Option<u32>
     if text.is_empty() || text.len() > 7 || text[0] == b'0' {
         return None;
     }
-    let mut value = 0u32;
-    for digit in text {
-        if !is_digit(*digit) {
-            return None;
-        }
-        value = value * 10 + u32::from(*digit - b'0');
-    }
+    let value = digits(text)?;
     if value <= MAX_EVENTS {
         Some(value)
     } else {

@@ -1,3 +1,4 @@
+pub mod EventReports
 pub mod Numbers
 pub mod Rule
 pub mod Steps

@@ -40,12 +40,10 @@ pub record AgreesWith (limit setting next serving : ℕ) (history : List Event) 
   pub spent : seat.part ≡ 0 → seat ≡ spent_seat
   pub knows_limit : 0 < seat.part → seat.limit ≡ limit
   pub knows_setting : 0 < seat.part → seat.setting ≡ setting
-
   -- it has seen a beginning of the history, and its own numbers lie there
   pub seen : StartsWith history seat.seen
   pub told : StartsWith history seat.told
   pub mine : IncreasesWithin 0 (length seat.seen) seat.mine
-
   -- its ticket was drawn and not served yet; it has the turn only where its ticket is served, and then knows the history
   pub ticket : (ticket : ℕ) → seat.ticket ≡ Some ticket → (serving ≤ ticket) × (ticket < next)
   pub turn : (known : List Event) → seat.history ≡ Some known → (known ≡ history) × (seat.ticket ≡ Some serving)
@@ -89,21 +87,17 @@ module _ {V : Type 0} (journal_of : V → List Event) (limit_of setting_of : V �
     pub next : ℕ
     pub serving : ℕ
     pub history : List Event
-
     -- the words
     pub words : state.words ≡ next ∷ serving ∷ length history ∷ []
     pub order : serving ≤ next
     pub fits : next < 2 ^ 64
     pub room : length history ≤ limit_of opening_value
-
     -- the seats
     pub seats : (j : ℕ) (seat : SeatView) → get_elem? state.views j ≡ maybe.some seat
         → AgreesWith (limit_of opening_value) (setting_of opening_value) next serving history seat
     pub tickets : HaveDifferentTickets state.views
-
     -- the value
     pub value : IsHome state.homes state.views history ⊎ IsOut state.homes state.views
-
     -- the parts are all parts, the turns all turns that were passed, and the numbers all numbers
     pub parts : sum_by (λ seat. seat.part) state.views ≡ whole
     pub turns : sum_by (λ seat. seat.turns + seat.joined_turns) state.views ≡ serving

@@ -37,24 +37,27 @@ module _ {V : Type 0} where
 
   -- the event stands behind a history that begins with what had been seen
   pub record Records
-    (step_limit : ℕ → List Event → Event → Option ℕ)
-    (before after : SeatAndSlot V)
-    (number feed : ℕ) (moment : ℤ) (command : Command)
-    (steps_before steps_after : ℕ) : Type 0 where
+      (step_limit : ℕ → List Event → Event → Option ℕ)
+      (before after : SeatAndSlot V)
+      (number feed : ℕ) (moment : ℤ) (command : Command)
+      (steps_before steps_after : ℕ) : Type 0 where
     pub history : List Event
     pub seen : StartsWith history before.0.seen
-    pub after_is : after ≡ (after_turn (history ++ event number feed moment command ∷ [])
-        (with_event (history ++ event number feed moment command ∷ []) before.0), [])
+    pub after_is : after ≡ (
+      after_turn (history ++ event number feed moment command ∷ [])
+          (with_event (history ++ event number feed moment command ∷ []) before.0),
+      [],
+    )
     pub number_is : number ≡ length history + 1
     pub room : number ≤ before.0.limit
     pub steps : IfSome (step_limit before.0.setting history (event number feed moment command)) (λ most. steps_after ≤ steps_before + most)
 
   -- the history that was found has been seen, and nothing was recorded
   pub record Refuses
-    (step_limit : ℕ → List Event → Event → Option ℕ)
-    (before after : SeatAndSlot V)
-    (refusal : FloorRefusal) (feed : ℕ) (moment : ℤ) (command : Command)
-    (steps_before steps_after : ℕ) : Type 0 where
+      (step_limit : ℕ → List Event → Event → Option ℕ)
+      (before after : SeatAndSlot V)
+      (refusal : FloorRefusal) (feed : ℕ) (moment : ℤ) (command : Command)
+      (steps_before steps_after : ℕ) : Type 0 where
     pub history : List Event
     pub seen : StartsWith history before.0.seen
     pub after_is : after ≡ (after_turn history before.0, [])

@@ -8,7 +8,9 @@ ghost use Rattle.turn_gate.specs.Steps.{after_turn};
 ghost use Rattle.turn_gate.specs.Turns.{Records, Refuses, IsGathered};
 
 use crate::rule::{OneHistory, TakeEmptySlot};
-use crate::turn::{GateTable, SERVING, TableSeat, draw_ticket, lay, pass_turn, record_event, take_turn};
+use crate::turn::{
+    GateTable, SERVING, TableSeat, draw_ticket, lay, pass_turn, record_event, take_turn,
+};
 use crate::view::SeatView;
 use atomic_table::Table;
 use std::alloc::Global;

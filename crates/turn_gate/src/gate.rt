@@ -89,9 +89,10 @@ impl<V: Held> Gate<V> {
         requires gate { seat.old.gate ≡ self.now }
         requires other_gate { other.gate ≡ self.now }
         ensures seat { seat.new ≡ record seat.old {
-            seen = longer_of seat.old.seen other.seen;
-            mine = merge_of seat.old.mine other.mine;
-            part = seat.old.part + other.part } }
+          seen = longer_of seat.old.seen other.seen;
+          mine = merge_of seat.old.mine other.mine;
+          part = seat.old.part + other.part;
+        } }
 
         // The two had seen beginnings of one history, and no event was an own one of both.
         ensures seen { StartsWith seat.new.seen seat.old.seen }

@@ -11,5 +11,5 @@ mod view;
 pub use gate::Gate;
 pub use seat::Seat;
 
-
-
+#[cfg(test)]
+mod tests;

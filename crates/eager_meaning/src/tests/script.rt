@@ -207,7 +207,10 @@ fn fields_of(alloc: Global, kind: &Kind) -> Result<String, AllocError> {
             let price = price_text(alloc, u64::from(*price) * 50)?;
             let head = named(alloc, "150=F", &view.id, None)?;
             let sums = sums_of(alloc, view)?;
-            format!(in alloc; "{head} 39={} 32={quantity} 31={price} {sums}", char::from(view.state))
+            format!(in alloc;
+                "{head} 39={} 32={quantity} 31={price} {sums}",
+                char::from(view.state)
+            )
         }
         Kind::Canceled { view, orig } => {
             let head = named(alloc, "150=4", &view.id, orig.as_ref())?;

@@ -5,4 +5,5 @@ use Rattle.eager_meaning.proofs.entering.push_leftover_notices.Given as goal
 -- what is told so far, and what the rows that are left will tell
 abbrev pub invariant-loop-x : goal.invariant-loop-x
 invariant-loop-x l =
-    l.notices.items ++ leftover_notices true (drop l.x-index l.left) l.orders ≡ l.initial.notices.items ++ leftover_notices true l.left l.orders
+    l.notices.items ++ leftover_notices true (drop l.x-index l.left) l.orders
+    ≡ l.initial.notices.items ++ leftover_notices true l.left l.orders

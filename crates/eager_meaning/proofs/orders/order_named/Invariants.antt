@@ -8,4 +8,5 @@ use Rattle.eager_meaning.proofs.orders.order_named.Given as goal
 abbrev pub invariant-loop-order : goal.invariant-loop-order
 invariant-loop-order l =
     (l.number ≡ l.order-index)
-    × (find (λ found. is_named l.member l.id found.1) (enumerate_from l.number (drop l.order-index l.orders)) ≡ order_named l.member l.id l.orders)
+    × (find (λ found. is_named l.member l.id found.1) (enumerate_from l.number (drop l.order-index l.orders))
+    ≡ order_named l.member l.id l.orders)

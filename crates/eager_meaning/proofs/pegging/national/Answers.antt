@@ -5,4 +5,5 @@ use Rattle.venue_words.specs.BestLaws.{best_of_is_meant}
 use Rattle.eager_meaning.proofs.pegging.national.Goals as goal
 
 pub returns : goal.returns
-returns c = subst (λ (best : Best). IsNationalBest c.args.rows.now best) (sym c.best_of.ensures) (best_of_is_meant c.args.rows.now)
+returns c =
+    subst (λ (best : Best). IsNationalBest c.args.rows.now best) (sym c.best_of.ensures) (best_of_is_meant c.args.rows.now)

@@ -6,4 +6,5 @@ pub returns-in-Some : goal.returns-in-Some
 returns-in-Some c = broken_at_once c.args.tests.now c.args.others.now c.in-Some.rule c.in-Some.ensures
 
 pub returns-in-None : goal.returns-in-None
-returns-in-None c = c.first_broken-in-None.ensures ∙ sym (broken_later c.args.tests.now c.args.others.now c.in-None.ensures)
+returns-in-None c =
+    c.first_broken-in-None.ensures ∙ sym (broken_later c.args.tests.now c.args.others.now c.in-None.ensures)

@@ -10,5 +10,6 @@ pub returns-else-k-orders : goal.returns-else-k-orders
 unfolding trade_notice
 returns-else-k-orders c =
     let past : length c.args.orders.now ≤ c.args.party.order = omega arith in
-    let none : slice_get c.args.orders.now c.args.party.order ≡ None = slice_get_past c.args.orders.now c.args.party.order past in
+    let none : slice_get c.args.orders.now c.args.party.order ≡ None =
+    slice_get_past c.args.orders.now c.args.party.order past in
     rw none (sym (append-nil c.args.notices.now.items))

@@ -5,5 +5,6 @@ use Rattle.eager_meaning.proofs.trading.push_trade_notices.Given as goal
 -- what is told so far, and what the trades that are left will tell and change
 abbrev pub invariant-loop-fill : goal.invariant-loop-fill
 invariant-loop-fill l =
-    (l.notices.items ++ trade_notices (drop l.fill-index l.fills) l.orders.items ≡ l.initial.notices.items ++ trade_notices l.fills l.initial.orders.items)
+    (l.notices.items ++ trade_notices (drop l.fill-index l.fills) l.orders.items
+    ≡ l.initial.notices.items ++ trade_notices l.fills l.initial.orders.items)
     × (orders_after_all (drop l.fill-index l.fills) l.orders.items ≡ orders_after_all l.fills l.initial.orders.items)

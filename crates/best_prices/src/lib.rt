@@ -1,0 +1,9 @@
+//! The national quote: the greatest bid and the least offer of all markets.
+#![tactic(auto)]
+
+pub mod markets;
+
+pub use markets::Markets;
+
+#[cfg(test)]
+mod tests;

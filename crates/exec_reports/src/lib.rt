@@ -1,0 +1,12 @@
+//! The bodies of execution reports and of cancel rejects.
+#![tactic(auto)]
+
+pub mod bodies;
+pub mod parts;
+pub mod tags;
+pub mod texts;
+
+pub use bodies::{body, kind};
+
+#[cfg(test)]
+mod tests;

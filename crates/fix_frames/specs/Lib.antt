@@ -1,0 +1,12 @@
+pub mod FramedLaws
+pub mod MomentLaws
+pub mod PlaceLaws
+pub mod Places
+pub mod Reading
+pub mod ReadingLaws
+pub mod RunLaws
+pub mod Runs
+pub mod Search
+pub mod StreamLaws
+pub mod Streams
+pub mod Taking

@@ -1,0 +1,61 @@
+//! Laws of framing. Each is the contract of a function that does nothing.
+ghost use Rattle.std.specs.Prelude.{◌≡◌, ℕ, ◌++◌, ◌∷◌, [], List, length, ◌≤◌, ◌⊎◌, codes, Some, Option, ℤ, ◌<ℤ◌, ◌≤ℤ◌};
+ghost use Rattle.fix_fields.specs.Forms.{moment_of};
+ghost use Rattle.fix_fields.specs.Spelling.{spelling};
+ghost use Rattle.fix_write.specs.Fields.{field};
+ghost use Rattle.fix_write.specs.Framing.{wrapped, frame_of};
+ghost use Rattle.fix_write.specs.Moments.{moment_text};
+ghost use Rattle.fix_frames.specs.FramedLaws.{EndsWithSoh};
+ghost use Rattle.fix_frames.specs.Reading.{none_yet, only_too_long, with_frames, reading_of};
+ghost use Rattle.fix_frames.specs.Runs.{Call, waited, exceeded, Leads, bytes_fed, frames_given};
+ghost use Rattle.fix_frames.specs.Streams.{Stream, beginning, EndsWith, gives, next_from};
+
+use fix_fields::{FIRST_MOMENT, LAST_MOMENT, LONGEST_FRAME};
+
+/// However a stream is cut into pieces, and whenever the next frame is asked for: a framer's answers are the frames
+/// of the whole stream. `Leads beginning calls new` says that these calls, each with its answer, lead a new framer to
+/// the stream `new`.
+pub fn any_calls()
+    // The frames of all bytes fed, whatever follows, are those that were given, and then those from the bytes kept on.
+    ensures frames { (calls : List Call) (new : Stream) (more : List ℕ) → Leads beginning calls new →
+        reading_of (bytes_fed calls ++ more) ≡ with_frames (frames_given calls) (reading_of (new.kept ++ more)) }
+
+    // Where the last answer is `Wait`, those that were given are all frames of the stream so far.
+    ensures wait { (calls : List Call) (new : Stream) → Leads beginning (calls ++ waited ∷ []) new →
+        reading_of (bytes_fed calls) ≡ with_frames (frames_given calls) none_yet }
+
+    // Where it is `TooLong`, the frame behind them is too long, whatever follows.
+    ensures too_long { (calls : List Call) (new : Stream) (more : List ℕ) → Leads beginning (calls ++ exceeded ∷ []) new →
+        reading_of (bytes_fed calls ++ more) ≡ with_frames (frames_given calls) only_too_long }
+
+    // What is kept is the end of the stream, behind the bytes that were passed over or given.
+    ensures kept { (calls : List Call) (new : Stream) → Leads beginning calls new → EndsWith (bytes_fed calls) new }
+{}
+
+/// What is written as a frame of at most `LONGEST_FRAME` bytes is the next frame of a stream that begins with it,
+/// whatever follows it.
+pub fn written_frames()
+    // A message, whose body is empty or ends with SOH.
+    ensures message { (kind : ℕ) (sender target : List ℕ) (number : ℕ) (moment : ℤ) (first_sent : Option ℤ)
+        (body more : List ℕ) → (body ≡ []) ⊎ EndsWithSoh body →
+        length (frame_of kind sender target number moment first_sent body) ≤ LONGEST_FRAME →
+        next_from (frame_of kind sender target number moment first_sent body ++ more)
+        ≡ gives 0 (frame_of kind sender target number moment first_sent body) }
+
+    // Fields that are given, the first of which is MsgType (35).
+    ensures fields { (content start more : List ℕ) → content ≡ codes "35=" ++ start → EndsWithSoh content →
+        length (wrapped content) ≤ LONGEST_FRAME → next_from (wrapped content ++ more) ≡ gives 0 (wrapped content) }
+{}
+
+/// A field is written as it is spelled where it is read.
+pub fn written_fields()
+    ensures { (tag : ℕ) (value : List ℕ) → field tag value ≡ spelling (record { tag = tag; bytes = value }) }
+{}
+
+/// A moment that is written is read as the same, or, outside the years 0000 to 9999, as the nearest one inside.
+pub fn written_moments()
+    ensures inside { (moment : ℤ) → FIRST_MOMENT ≤ℤ moment → moment ≤ℤ LAST_MOMENT →
+        moment_of (moment_text moment) ≡ Some moment }
+    ensures before { (moment : ℤ) → moment <ℤ FIRST_MOMENT → moment_of (moment_text moment) ≡ Some FIRST_MOMENT }
+    ensures after { (moment : ℤ) → LAST_MOMENT <ℤ moment → moment_of (moment_text moment) ≡ Some LAST_MOMENT }
+{}

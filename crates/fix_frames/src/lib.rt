@@ -1,0 +1,14 @@
+//! Finds the frames in a stream of bytes, however the stream is cut into pieces.
+#![tactic(auto)]
+
+pub mod framer;
+pub mod laws;
+pub mod place;
+pub mod reading;
+
+pub use fix_fields::LONGEST_FRAME;
+pub use framer::{Framer, Next};
+pub use reading::{Reading, read_frames};
+
+#[cfg(test)]
+mod tests;

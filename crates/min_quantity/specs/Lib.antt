@@ -1,0 +1,2 @@
+pub use Rattle.eager_meaning.specs.Floor
+pub use Rattle.eager_meaning.specs.Walk

@@ -1,0 +1,20 @@
+-- Lemmas on sides of a book.
+pub mod BestGroup
+pub mod Counting
+pub mod FlatBest
+pub mod FlatRows
+pub mod FlatSides
+pub mod FlatSteps
+pub mod GroupBest
+pub mod GroupLookup
+pub mod GroupSteps
+pub mod KeyCounts
+pub mod Lists
+pub mod Mapped
+pub mod Merged
+pub mod Paired
+pub mod Pairs
+pub mod Positive
+pub mod Repricing
+pub mod Scan
+pub mod SideSteps

@@ -1,0 +1,38 @@
+use Rattle.std.proofs.Common.{◌≡◌, ap, sym, ◌∙◌, List, length, refl, arith, ◌<◌, ◌^◌, ◌+◌}
+use Rattle.peg_groups.proofs.Counting.{few_in_groups, length_insert}
+use Rattle.venue_words.specs.declared.row.Row.{Row}
+use Rattle.venue_words.specs.declared.row.Priced.{Priced}
+use Rattle.peg_groups.specs.Side.{SideState, taken_row}
+use Rattle.peg_groups.specs.Groups.{GroupsView, rows_of}
+use Rattle.peg_groups.proofs.SideSteps.{side_back, keeps_enter}
+use Rattle.peg_groups.proofs.group_side.GroupSideSideBook.put_back.Goals as goal
+
+pub overflow_add-self : goal.overflow_add-self
+overflow_add-self g c = omega (arith, few_in_groups c.self.inside.best c.self.inside.event c.self.inside.groups.entries c.self.invariant.is.groups, c.self.invariant.len_is)
+
+pub invariant_of-self : goal.invariant_of-self
+invariant_of-self g c =
+    let row : c.behind-node.inside.row ≡ c.args.taken.node.value.row = ap (λ p. p.row) (c.behind-node.view_is ∙ c.deref.ensures) in
+    let small : c.args.taken.node.value.row.entry < 2 ^ 32 = omega (arith, c.behind-node.invariant.entry, ap (λ (r : Row). r.entry) row) in
+    let r = side_back (record { entries = c.self.inside.groups.entries; best = c.self.inside.best; event = c.self.inside.event }) (taken_row c.args.taken) c.enter.new.groups.entries c.self.invariant.is (rw row at c.enter.ensures.entered) (rw (← c.self.view_is) at c.requires.absent) (rw (← c.self.view_is) at c.requires.fits) small in
+    record { is = r.0; len_is = omega (arith, ap length r.1, length_insert (taken_row c.args.taken) (rows_of c.self.inside.groups.entries), c.self.invariant.len_is) }
+
+pub returns-clause-state : goal.returns-clause-state
+returns-clause-state g c =
+    let row : c.behind-node.inside.row ≡ c.args.taken.node.value.row = ap (λ p. p.row) (c.behind-node.view_is ∙ c.deref.ensures) in
+    let small : c.args.taken.node.value.row.entry < 2 ^ 32 = omega (arith, c.behind-node.invariant.entry, ap (λ (r : Row). r.entry) row) in
+    rw (← c.self.view_is)
+    (ap (λ (rows : List Priced). record { rows = rows; best = c.self.inside.best; event = c.self.inside.event })
+    (side_back (record { entries = c.self.inside.groups.entries; best = c.self.inside.best; event = c.self.inside.event }) (taken_row c.args.taken) c.enter.new.groups.entries c.self.invariant.is (rw row at c.enter.ensures.entered) (rw (← c.self.view_is) at c.requires.absent) (rw (← c.self.view_is) at c.requires.fits) small).1)
+
+pub returns-clause-fits : goal.returns-clause-fits
+returns-clause-fits g c = rw (← c.self.view_is) (keeps_enter _ _ _ _ c.enter.ensures.entered).fits
+
+pub returns-clause-rows : goal.returns-clause-rows
+returns-clause-rows g c = rw (← c.self.view_is) (keeps_enter _ _ _ _ c.enter.ensures.entered).rows
+
+pub returns-clause-moves : goal.returns-clause-moves
+returns-clause-moves g c = rw (← c.self.view_is) (keeps_enter _ _ _ _ c.enter.ensures.entered).room
+
+pub returns-clause-width : goal.returns-clause-width
+returns-clause-width g c = rw (← c.self.view_is) (keeps_enter _ _ _ _ c.enter.ensures.entered).len

@@ -1,0 +1,188 @@
+//! A side that keeps its rows in groups by key, and neither value nor time of a row.
+ghost use Rattle.std.specs.Prelude.{◌≡◌, ◌+◌, ◌-◌, ◌*◌, ◌≤◌, if◌then◌else◌, true, length, IfSome, OnOk, OnErr};
+ghost use Rattle.std.specs.Option.{ForSome};
+ghost use Rattle.venue_words.specs.Conditions.{IsKey};
+ghost use Rattle.peg_groups.specs.Groups.{groups_state, rows_of, ReservesGroups, HasGroup, HaveRoom};
+ghost use Rattle.peg_groups.specs.KeyCount.{key_count};
+
+use crate::first::take_first;
+use crate::group::Group;
+use crate::groups::{enter, leave, look_up};
+use crate::pricing::reprice_groups;
+use crate::room::{drop_empty, reserve_group, reserve_moves, used_groups};
+use crate::side_book::{SideBook, Taken};
+use indexmap::IndexMap;
+use limit_tree::Node;
+use std::alloc::Global;
+use std::marker::Model;
+use std::sync::ledger::Ledger;
+use venue_words::{Best, Key, NoMemory, Row, Steps};
+
+/// A side that keeps its rows in groups by key, and neither value nor time of a row.
+#[derive(Drop)]
+pub struct GroupSide {
+    groups: IndexMap<Key, Group>,
+    alloc: Global,
+    best: Best,
+    event: u32,
+    len: usize,
+}
+
+impl Model for GroupSide {
+    ghost use Rattle.peg_groups.specs.Groups.{GroupsView, IsCounted};
+
+    ghost Value = { GroupsView };
+
+    ghost view = { λ s. record { entries = s.groups.entries; best = s.best; event = s.event } };
+
+    ghost invariant = { λ s. IsCounted (record { entries = s.groups.entries; best = s.best; event = s.event }) s.len };
+}
+
+impl GroupSide {
+    ghost use Rattle.std.specs.Prelude.{◌≡◌, [], length};
+    ghost use Rattle.peg_groups.specs.Groups.{groups_state};
+    ghost use Rattle.peg_groups.specs.Side.{first_state};
+
+    /// A side without rows, before the first quote. This takes no memory.
+    pub fn new(alloc: Global) -> GroupSide
+        ensures state { groups_state result ≡ first_state }
+        ensures width { length result.entries ≡ 0 }
+    {
+        GroupSide {
+            groups: IndexMap::new(alloc),
+            alloc,
+            best: Best {
+                bid: None,
+                offer: None,
+            },
+            event: 0,
+            len: 0,
+        }
+    }
+}
+
+/// The number of rows once one left or none did.
+fn without_one(len: usize, left: bool) -> usize
+    requires { left ≡ true → 1 ≤ len }
+    ensures { result ≡ (if left then len - 1 else len) }
+{
+    if left { len - 1 } else { len }
+}
+
+/// Makes room for a move in every group, and a group of the key where one is given.
+fn reserve_all(
+    groups: &mut IndexMap<Key, Group>,
+    alloc: Global,
+    best: Best,
+    key: Option<Key>,
+) -> Result<(), NoMemory>
+    requires key { ForSome key IsKey }
+    ensures kept { ReservesGroups best key groups.old.entries groups.new.entries }
+    ensures has { OnOk result (IfSome key (λ k. HasGroup k groups.new.entries)) }
+    ensures room { OnOk result (HaveRoom groups.new.entries) }
+    ensures err { OnErr result (length groups.new.entries ≡ length groups.old.entries) }
+{
+    reserve_moves(groups)?;
+    match key {
+        None => Ok(()),
+        Some(key) => reserve_group(groups, alloc, best, key),
+    }
+}
+
+impl SideBook for GroupSide {
+    ghost use Rattle.std.specs.Prelude.{length, ◌+◌};
+    ghost use Rattle.peg_groups.specs.Groups.{groups_state, FitsGroup, HasGroup, HaveRoom};
+
+    ghost state = { groups_state };
+
+    ghost width = { λ s. length s.entries };
+
+    ghost visits = { λ s. length s.entries };
+
+    ghost fits = { λ s standing. FitsGroup s.entries standing };
+
+    ghost row_room = { λ s key. HasGroup key s.entries };
+
+    ghost move_room = { λ s. HaveRoom s.entries };
+
+    fn len(&self) -> usize {
+        self.len
+    }
+
+    fn groups(&self) -> usize {
+        used_groups(&self.groups)
+    }
+
+    fn reserve(&mut self, key: Option<Key>) -> Result<(), NoMemory> {
+        reserve_all(&mut self.groups, self.alloc, self.best, key)
+    }
+
+    fn put<L: Ledger>(&mut self, node: Box<Node>, steps: &mut Steps<L>) {
+        let Row {
+            key,
+            entry: _entry,
+            ..
+        } = node.row;
+        enter(&mut self.groups, key, node, steps);
+        self.len += 1;
+    }
+
+    fn put_back<L: Ledger>(&mut self, taken: Taken, steps: &mut Steps<L>) {
+        let Taken { node, .. } = taken;
+        let Row {
+            key,
+            entry: _entry,
+            ..
+        } = node.row;
+        enter(&mut self.groups, key, node, steps);
+        self.len += 1;
+    }
+
+    fn cut<L: Ledger>(
+        &mut self,
+        key: Key,
+        cap: u32,
+        entry: u32,
+        steps: &mut Steps<L>,
+    ) -> Option<Box<Node>> {
+        steps.tick();
+        let found = leave(&mut self.groups, key, cap, entry, steps);
+        self.len = without_one(self.len, found.is_some());
+        found
+    }
+
+    fn take_best<L: Ledger>(&mut self, steps: &mut Steps<L>) -> Option<Taken> {
+        steps.tick();
+        let found = take_first(&mut self.groups, steps);
+        self.len = without_one(self.len, found.is_some());
+        found
+    }
+
+    fn priced<L: Ledger>(
+        &self,
+        key: Key,
+        cap: u32,
+        entry: u32,
+        steps: &mut Steps<L>,
+    ) -> Option<(Option<u32>, u32)> {
+        steps.tick();
+        look_up(&self.groups, key, cap, entry, steps)
+    }
+
+    fn reprice<L: Ledger>(&mut self, event: u32, best: Best, steps: &mut Steps<L>) {
+        reprice_groups(&mut self.groups, event, best, steps);
+        self.best = best;
+        self.event = event;
+    }
+
+    fn tidy<L: Ledger>(&mut self, steps: &mut Steps<L>)
+        ensures state { groups_state self.new ≡ groups_state self.old }
+        ensures width { length self.new.entries ≤ length self.old.entries }
+        ensures most { steps.new ≤ steps.old + 128 * (length self.old.entries + 1) }
+
+        // The groups that are left are those of the keys with a row.
+        ensures keys { length self.new.entries ≡ key_count (rows_of self.new.entries) }
+    {
+        drop_empty(&mut self.groups, steps);
+    }
+}
