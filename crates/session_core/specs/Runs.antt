@@ -1,0 +1,64 @@
+-- The machine over whole lists of inputs.
+use Rattle.std.specs.Prelude.{◌≡◌, ◌≤◌, ℕ, not, if◌then◌else◌, List, [], ◌∷◌, length, Result, Ok, Err, IsTrue, ℤ}
+use Rattle.venue_words.specs.declared.refusal.NoMemory.{NoMemory}
+use Rattle.fix_fields.specs.declared.field.TheConstants.{LONGEST_FRAME}
+use Rattle.session_core.specs.declared.message.Message.{Message}
+use Rattle.session_core.specs.declared.runs.Input.{Input}
+use Rattle.session_core.specs.declared.runs.Input.TheVariants.{Connection, Frame, TooLong, Tick, Send, Reject}
+use Rattle.session_core.specs.declared.turn.Turn.{Turn}
+use Rattle.session_core.specs.State.{is_up, is_over}
+use Rattle.session_core.specs.Machine.{Machine, Outcome, rests, connected, given_up, on_frame, on_overlong, on_clock, on_send, on_reject}
+
+-- a frame is not too long
+abbrev pub IsShort : Input → Type 0
+IsShort Connection = Unit {0}
+IsShort (Frame frame moment) = length frame ≤ LONGEST_FRAME
+IsShort (TooLong moment) = Unit {0}
+IsShort (Tick moment) = Unit {0}
+IsShort (Send messages moment) = Unit {0}
+IsShort (Reject number kind tag reason moment) = Unit {0}
+
+-- a session that is not up passes over what is to be sent
+abbrev pub send_if_up : Machine → List Message → ℤ → Outcome
+send_if_up machine messages moment = if is_up machine.state then on_send machine messages moment else rests machine
+
+abbrev pub reject_if_up : Machine → ℕ → ℕ → ℕ → ℕ → ℤ → Outcome
+reject_if_up machine number kind tag reason moment =
+    if is_up machine.state then on_reject machine number kind tag reason moment else rests machine
+
+-- what an input gives
+abbrev pub outcome_of : Machine → Input → Outcome
+outcome_of machine Connection = rests (connected machine)
+outcome_of machine (Frame frame moment) = on_frame machine frame moment
+outcome_of machine (TooLong moment) = on_overlong machine moment
+outcome_of machine (Tick moment) = on_clock machine moment
+outcome_of machine (Send messages moment) = send_if_up machine messages moment
+outcome_of machine (Reject number kind tag reason moment) = reject_if_up machine number kind tag reason moment
+
+-- the session after an input for which memory was wanted: what was received ends the connection, and what was to be
+-- sent changes nothing
+abbrev pub without_memory : Machine → Input → Machine
+without_memory machine Connection = machine
+without_memory machine (Frame frame moment) = given_up machine
+without_memory machine (TooLong moment) = given_up machine
+without_memory machine (Tick moment) = given_up machine
+without_memory machine (Send messages moment) = machine
+without_memory machine (Reject number kind tag reason moment) = machine
+
+-- the session after an input and its answer
+abbrev pub machine_behind : Machine → Input → Result Turn NoMemory → Machine
+machine_behind machine input (Ok turn) = (outcome_of machine input).machine
+machine_behind machine input (Err no_memory) = without_memory machine input
+
+-- an answer is the machine's turn; memory may be wanted, but not by a session that is over
+abbrev pub Answers : Machine → Input → Result Turn NoMemory → Type 0
+Answers machine input (Ok turn) = turn ≡ (outcome_of machine input).turn
+Answers machine input (Err no_memory) = IsTrue (not (is_over machine.state.phase))
+
+-- the answers to a list of inputs, and the session behind the last
+abbrev pub Follows : Machine → List Input → List (Result Turn NoMemory) → Machine → Type 0
+Follows machine [] [] last = last ≡ machine
+Follows machine [] (answer ∷ answers) last = ⊥
+Follows machine (input ∷ inputs) [] last = ⊥
+Follows machine (input ∷ inputs) (answer ∷ answers) last =
+    Answers machine input answer × Follows (machine_behind machine input answer) inputs answers last

@@ -1,0 +1,86 @@
+//! What each frame and each tick asks of a session that has not ended. The first case that fits decides.
+ghost use Rattle.std.specs.Prelude.{◌≡◌, ◌<◌, IfOk, None};
+ghost use Rattle.session_core.specs.Plan.{HandsOutUp};
+ghost use Rattle.session_core.specs.Cases.{on_message, on_too_long, has_passed, on_tick};
+
+use crate::answers::{drops, drops_wrong_name, logs_out};
+use crate::bodies::{heartbeat, test_request};
+use crate::logon::before_logon;
+use crate::lookup::is_value;
+use crate::message::Incoming;
+use crate::plan::{Plan, says, stays};
+use crate::sequence::when_up;
+use crate::state::{EndCause, State, is_up};
+use crate::tags::{SENDER_COMP_ID, TARGET_COMP_ID};
+use std::alloc::Global;
+use venue_words::NoMemory;
+
+/// What a message of a number asks of a member's session, where `sent` is the last number that was sent.
+#[tactic(auto, unfolding(crate::specs::Cases::on_message))]
+pub fn on_message(
+    alloc: Global,
+    member: &[u8],
+    sent: u64,
+    state: State,
+    incoming: &Incoming,
+) -> Result<Plan, NoMemory>
+    requires { incoming.now.number < 1_000_000_000 }
+    ensures plan { IfOk result (λ p. p ≡ on_message member.now sent state incoming.now) }
+    ensures up { IfOk result HandsOutUp }
+{
+    let fields = incoming.fields.as_slice();
+    if !is_value(SENDER_COMP_ID, member, fields) {
+        return drops_wrong_name(alloc, state, incoming, SENDER_COMP_ID);
+    }
+    if !is_value(TARGET_COMP_ID, b"PEGV", fields) {
+        return drops_wrong_name(alloc, state, incoming, TARGET_COMP_ID);
+    }
+    if is_up(state) {
+        when_up(alloc, state, incoming, sent)
+    } else {
+        before_logon(alloc, state, incoming)
+    }
+}
+
+/// What a frame that is too long asks.
+#[tactic(auto, unfolding(crate::specs::Cases::on_too_long))]
+pub fn on_too_long(alloc: Global, state: State) -> Result<Plan, NoMemory>
+    ensures plan { IfOk result (λ p. p ≡ on_too_long state) }
+    ensures quiet { IfOk result (λ p. p.request ≡ None) }
+{
+    drops(alloc, state, EndCause::TooLong, b"TOO LONG")
+}
+
+/// Whether so many milliseconds have passed.
+fn has_passed(milliseconds: u64, before: i64, moment: i64) -> bool
+    ensures { result ≡ has_passed milliseconds before moment }
+{
+    i128::from(milliseconds) <= i128::from(moment) - i128::from(before)
+}
+
+/// What a tick asks of a session that is up. It sends at most one message.
+#[tactic(auto, unfolding(crate::specs::Cases::on_tick))]
+pub fn on_tick(alloc: Global, moment: i64, state: State) -> Result<Plan, NoMemory>
+    ensures plan { IfOk result (λ p. p ≡ on_tick moment state) }
+    ensures quiet { IfOk result (λ p. p.request ≡ None) }
+{
+    let seconds = u64::from(state.heartbeat);
+    if seconds == 0 {
+        return Ok(stays(alloc, state));
+    }
+    if has_passed(3000 * seconds, state.received, moment) {
+        return logs_out(alloc, state, EndCause::Silent, b"SILENT");
+    }
+    if !state.test_out && has_passed(2000 * seconds, state.received, moment) {
+        let test = test_request(alloc)?;
+        let waiting = State {
+            test_out: true,
+            ..state
+        };
+        return Ok(says(waiting, vec![in alloc; test]?));
+    }
+    if has_passed(1000 * seconds, state.sent_at, moment) {
+        return Ok(says(state, vec![in alloc; heartbeat(alloc)]?));
+    }
+    Ok(stays(alloc, state))
+}

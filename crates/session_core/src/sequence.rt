@@ -1,0 +1,179 @@
+//! What a message asks of a session that is up, by its number and its type.
+ghost use Rattle.std.specs.Prelude.{◌≡◌, ◌<◌, IfOk, None, true};
+ghost use Rattle.session_core.specs.State.{is_up};
+ghost use Rattle.session_core.specs.Plan.{HandsOutUp};
+ghost use Rattle.session_core.specs.Sequence.{sets_next, on_reset, on_logout, too_low, too_early, answers_test, by_type, in_turn, by_number, when_up};
+
+use crate::answers::{logs_out, rejects};
+use crate::bodies::{resend_request, test_answer};
+use crate::lookup::{is_yes, number_or_zero, text_in};
+use crate::message::Incoming;
+use crate::message_types::{
+    HEARTBEAT, LOGON, LOGOUT, REJECT, RESEND_REQUEST, SEQUENCE_RESET, TEST_REQUEST, is_order,
+};
+use crate::plan::{Plan, hands_out, says, stays};
+use crate::reasons::{VALUE_OUT_OF_RANGE, WRONG_TYPE};
+use crate::resend::{on_resend_request, then_asks_again};
+use crate::state::{EndCause, State};
+use crate::tables::failed_of;
+use crate::tags::{GAP_FILL_FLAG, MSG_TYPE, NEW_SEQ_NO, POSS_DUP_FLAG, TEST_REQ_ID};
+use std::alloc::Global;
+use venue_words::NoMemory;
+
+/// A SequenceReset sets the next number, where it is not below the least that it may be.
+#[tactic(auto, unfolding(crate::specs::Sequence::sets_next))]
+fn sets_next(alloc: Global, state: State, incoming: &Incoming, least: u32) -> Result<Plan, NoMemory>
+    ensures plan { IfOk result (λ p. p ≡ sets_next state incoming.now least) }
+    ensures quiet { IfOk result (λ p. p.request ≡ None) }
+{
+    let next_in = number_or_zero(NEW_SEQ_NO, incoming.fields.as_slice());
+    if least <= next_in {
+        Ok(stays(alloc, State { next_in, ..state }))
+    } else {
+        rejects(alloc, state, incoming, NEW_SEQ_NO, VALUE_OUT_OF_RANGE)
+    }
+}
+
+/// What a SequenceReset that is no gap fill asks, whatever its number.
+#[tactic(auto, unfolding(crate::specs::Sequence::on_reset))]
+fn on_reset(alloc: Global, state: State, incoming: &Incoming) -> Result<Plan, NoMemory>
+    ensures plan { IfOk result (λ p. p ≡ on_reset state incoming.now) }
+    ensures quiet { IfOk result (λ p. p.request ≡ None) }
+{
+    match failed_of(SEQUENCE_RESET, incoming.fields.as_slice()) {
+        Some(failed) => rejects(alloc, state, incoming, failed.tag, failed.reason),
+        None => sets_next(alloc, state, incoming, state.next_in),
+    }
+}
+
+/// What a Logout asks.
+#[tactic(auto, unfolding(crate::specs::Sequence::on_logout))]
+fn on_logout(alloc: Global, state: State, incoming: &Incoming) -> Result<Plan, NoMemory>
+    ensures plan { IfOk result (λ p. p ≡ on_logout state incoming.now) }
+    ensures quiet { IfOk result (λ p. p.request ≡ None) }
+{
+    match failed_of(LOGOUT, incoming.fields.as_slice()) {
+        Some(failed) => rejects(alloc, state, incoming, failed.tag, failed.reason),
+        None => logs_out(alloc, state, EndCause::Logout, b""),
+    }
+}
+
+/// A number that came before.
+#[tactic(auto, unfolding(crate::specs::Sequence::too_low))]
+fn too_low(alloc: Global, state: State, incoming: &Incoming) -> Result<Plan, NoMemory>
+    ensures plan { IfOk result (λ p. p ≡ too_low state incoming.now) }
+    ensures quiet { IfOk result (λ p. p.request ≡ None) }
+{
+    if is_yes(POSS_DUP_FLAG, incoming.fields.as_slice()) {
+        Ok(stays(alloc, state))
+    } else {
+        logs_out(alloc, state, EndCause::TooLow, b"TOO LOW")
+    }
+}
+
+/// A number that came too early. The message is not kept, and is asked for again.
+#[tactic(auto, unfolding(crate::specs::Sequence::too_early))]
+fn too_early(alloc: Global, state: State, incoming: &Incoming, sent: u64) -> Result<Plan, NoMemory>
+    ensures plan { IfOk result (λ p. p ≡ too_early state incoming.now sent) }
+    ensures quiet { IfOk result (λ p. p.request ≡ None) }
+{
+    if incoming.kind == LOGOUT {
+        return on_logout(alloc, state, incoming);
+    }
+    let fields = incoming.fields.as_slice();
+    if incoming.kind == RESEND_REQUEST && failed_of(RESEND_REQUEST, fields).is_none() {
+        let plan = on_resend_request(alloc, state, incoming, sent)?;
+        return then_asks_again(alloc, plan, state.next_in);
+    }
+    let message = resend_request(alloc, state.next_in)?;
+    Ok(says(state, vec![in alloc; message]?))
+}
+
+/// A TestRequest is answered by a Heartbeat with its identifier.
+#[tactic(auto, unfolding(crate::specs::Sequence::answers_test))]
+fn answers_test(alloc: Global, state: State, incoming: &Incoming) -> Result<Plan, NoMemory>
+    ensures plan { IfOk result (λ p. p ≡ answers_test state incoming.now) }
+    ensures quiet { IfOk result (λ p. p.request ≡ None) }
+{
+    let id = text_in(TEST_REQ_ID, incoming.fields.as_slice());
+    let message = test_answer(alloc, id)?;
+    Ok(says(state, vec![in alloc; message]?))
+}
+
+/// What a message that passes the checks asks, by its type.
+#[tactic(auto, unfolding(crate::specs::Sequence::by_type))]
+fn by_type(alloc: Global, state: State, incoming: &Incoming, sent: u64) -> Result<Plan, NoMemory>
+    requires small { incoming.now.number < 1_000_000_000 }
+    requires is_up { is_up state ≡ true }
+    ensures plan { IfOk result (λ p. p ≡ by_type state incoming.now sent) }
+    ensures up { IfOk result HandsOutUp }
+{
+    match incoming.kind {
+        HEARTBEAT | REJECT => Ok(stays(alloc, state)),
+        TEST_REQUEST => answers_test(alloc, state, incoming),
+        RESEND_REQUEST => on_resend_request(alloc, state, incoming, sent),
+        SEQUENCE_RESET => sets_next(alloc, state, incoming, incoming.number + 1),
+        LOGOUT => logs_out(alloc, state, EndCause::Logout, b""),
+        LOGON => rejects(alloc, state, incoming, MSG_TYPE, WRONG_TYPE),
+        _ => Ok(hands_out(alloc, state, incoming, None)),
+    }
+}
+
+/// What the message that was to come asks.
+#[tactic(auto, unfolding(crate::specs::Sequence::in_turn))]
+fn in_turn(alloc: Global, state: State, incoming: &Incoming, sent: u64) -> Result<Plan, NoMemory>
+    requires small { incoming.now.number < 1_000_000_000 }
+    requires is_up { is_up state ≡ true }
+    ensures plan { IfOk result (λ p. p ≡ in_turn state incoming.now sent) }
+    ensures up { IfOk result HandsOutUp }
+{
+    let failed = failed_of(incoming.kind, incoming.fields.as_slice());
+    if is_order(incoming.kind) {
+        return Ok(hands_out(alloc, state, incoming, failed));
+    }
+    match failed {
+        Some(failed) => rejects(alloc, state, incoming, failed.tag, failed.reason),
+        None => by_type(alloc, state, incoming, sent),
+    }
+}
+
+/// What a message asks by its number.
+#[tactic(auto, unfolding(crate::specs::Sequence::by_number))]
+fn by_number(alloc: Global, state: State, incoming: &Incoming, sent: u64) -> Result<Plan, NoMemory>
+    requires small { incoming.now.number < 1_000_000_000 }
+    requires is_up { is_up state ≡ true }
+    ensures plan { IfOk result (λ p. p ≡ by_number state incoming.now sent) }
+    ensures up { IfOk result HandsOutUp }
+{
+    if incoming.number < state.next_in {
+        return too_low(alloc, state, incoming);
+    }
+    if state.next_in < incoming.number {
+        return too_early(alloc, state, incoming, sent);
+    }
+    let state = State {
+        next_in: incoming.number + 1,
+        ..state
+    };
+    in_turn(alloc, state, incoming, sent)
+}
+
+/// What a message asks of a session that is up, where `sent` is the last number that was sent.
+#[tactic(auto, unfolding(crate::specs::Sequence::when_up))]
+pub fn when_up(
+    alloc: Global,
+    state: State,
+    incoming: &Incoming,
+    sent: u64,
+) -> Result<Plan, NoMemory>
+    requires small { incoming.now.number < 1_000_000_000 }
+    requires is_up { is_up state ≡ true }
+    ensures plan { IfOk result (λ p. p ≡ when_up state incoming.now sent) }
+    ensures up { IfOk result HandsOutUp }
+{
+    if incoming.kind == SEQUENCE_RESET && !is_yes(GAP_FILL_FLAG, incoming.fields.as_slice()) {
+        on_reset(alloc, state, incoming)
+    } else {
+        by_number(alloc, state, incoming, sent)
+    }
+}
