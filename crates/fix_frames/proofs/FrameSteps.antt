@@ -1,5 +1,5 @@
 -- What comes next in a stream, in terms of frames.
-use Rattle.std.proofs.Common.{◌≡◌, ℕ, ◌+◌, ◌<◌, ◌≤◌, List, ◌++◌, length, take, drop, sym, ◌∙◌, ap, subst, arith}
+use Rattle.std.proofs.Common.{◌≡◌, ℕ, ◌<◌, ◌≤◌, List, ◌++◌, length, take, drop, sym, ◌∙◌, ap, subst, arith}
 use Rattle.std.proofs.lemmas.List.{take_all}
 use Rattle.fix_fields.specs.declared.field.TheConstants.{LONGEST_FRAME}
 use Rattle.fix_frames.specs.declared.place.Place.TheVariants.{Passed, Unfinished, Whole}

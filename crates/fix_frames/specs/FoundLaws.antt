@@ -1,23 +1,21 @@
 -- What is found as a whole frame is spelled as one.
-use Rattle.std.proofs.Common.{◌≡◌, ℕ, zero, suc, ◌+◌, ◌-◌, ◌*◌, ◌%◌, ◌<◌, ◌≤◌, Bool, true, false, not, ◌&&◌, cond, eqb, ltb, List, [], ◌∷◌, ◌++◌, length, take, drop, get_or, Some, ◌⊎◌, inl, inr, refl, sym, ◌∙◌, ap, subst, arith, append_assoc, length-append, length-drop, length-take}
+use Rattle.std.proofs.Common.{◌≡◌, ℕ, zero, suc, ◌+◌, ◌-◌, ◌*◌, ◌%◌, ◌<◌, ◌≤◌, Bool, true, false, not, ◌&&◌, cond, eqb, ltb, List, [], ◌∷◌, ◌++◌, length, take, drop, get_or, Some, ◌⊎◌, inl, inr, refl, sym, ◌∙◌, ap, subst, arith, append_assoc, length-append, length-drop}
 use Rattle.std.specs.Prelude.{codes, sum}
 use Rattle.std.specs.Char.{is_ascii_digit, digit_value}
 use Rattle.std.specs.List.{list_all, starts_with}
 use Rattle.std.specs.Str.Parse.{digits_value, digits_value_after}
-use Rattle.std.proofs.lemmas.Bool.{and_parts, and_from, eqb-true, ltb-true, ltb-false, not-true, not-false}
-use Rattle.std.proofs.lemmas.Bool.Decides.{nat_tests}
+use Rattle.std.proofs.lemmas.Bool.{and_parts, and_from, eqb-true, ltb-true, ltb-false, not-false}
 use Rattle.std.proofs.lemmas.List.{take_at, drop_at, drop-drop, take_all, take-append-drop, length-take-le, get_or-append-add, get_or_append_left, take_more, take-append-le}
 use Rattle.std.proofs.Math.Seq.{take-append-add}
 use lib.Pointwise.{bytes_decides}
 use Rattle.fix_fields.specs.Forms.{numeral}
 use Rattle.fix_fields.specs.declared.field.TheConstants.{LONGEST_FRAME}
 use Rattle.fix_write.specs.Digits.{three_digits}
-use Rattle.fix_frames.specs.declared.place.Place.{Place}
 use Rattle.fix_frames.specs.declared.place.Place.TheVariants.{Passed, Unfinished, Long, Whole}
 use Rattle.fix_frames.specs.declared.place.BodyLength.{BodyLength}
 use Rattle.fix_frames.specs.declared.place.BodyLength.TheVariants.{Bad, Partial, Declared}
-use Rattle.fix_frames.specs.Frames.{header, check_sum, EndsWithSoh, IsFrame}
-use Rattle.fix_frames.specs.FrameLaws.{digit_is, length-header, length-check_sum, length-three}
+use Rattle.fix_frames.specs.Frames.{header, check_sum, IsFrame}
+use Rattle.fix_frames.specs.FrameLaws.{digit_is, length-header, length-three}
 use Rattle.fix_frames.specs.Places.{length_after, body_length, begins, begin_string, has_check_sum, is_frame, judged, place_at}
 use Rattle.fix_frames.specs.PlaceLaws.{few_more, body_length-one, body_length-two}
 

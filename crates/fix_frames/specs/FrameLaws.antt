@@ -1,25 +1,22 @@
 -- What stands at a place is a whole frame exactly where a frame is spelled there.
-use Rattle.std.proofs.Common.{◌≡◌, ℕ, zero, suc, ◌+◌, ◌-◌, ◌*◌, ◌%◌, ◌<◌, ◌≤◌, Bool, true, false, not, ◌&&◌, cond, eqb, ltb, List, [], ◌∷◌, ◌++◌, length, take, drop, get_or, Some, ◌⊎◌, inl, inr, refl, sym, ◌∙◌, ap, subst, arith, append_assoc, length-append, length-drop}
+use Rattle.std.proofs.Common.{◌≡◌, ℕ, suc, ◌+◌, ◌-◌, ◌*◌, ◌%◌, ◌<◌, ◌≤◌, true, false, eqb, ltb, List, [], ◌∷◌, ◌++◌, length, take, drop, get_or, Some, refl, sym, ◌∙◌, ap, arith, append_assoc, length-append}
 use Rattle.std.specs.Prelude.{codes, sum}
 use Rattle.std.specs.Char.{is_ascii_digit, digit_value}
 use Rattle.std.specs.List.{list_all, starts_with}
 use Rattle.std.specs.Str.Parse.{digits_value, digits_value_after}
-use Rattle.std.proofs.lemmas.Bool.{and_parts, eqb-true, ltb-false}
+use Rattle.std.proofs.lemmas.Bool.{and_parts}
 use Rattle.std.proofs.lemmas.Bool.Decides.{nat_tests}
-use Rattle.std.proofs.lemmas.List.{take_at, drop_at, drop-drop, take_all, take-append-drop, length-take-le, get_or_at, get_or-append-add, take_more}
-use Rattle.std.proofs.Math.Seq.{take-add, take-append-add}
+use Rattle.std.proofs.lemmas.List.{take_at, drop_at, drop-drop, take_all, get_or_at}
 use lib.Pointwise.{bytes_decides}
 use Rattle.fix_fields.specs.Forms.{numeral}
 use Rattle.fix_fields.specs.Marks.{place_found}
 use Rattle.fix_fields.specs.declared.field.TheConstants.{LONGEST_FRAME}
 use Rattle.fix_write.specs.Digits.{three_digits}
-use Rattle.fix_frames.specs.declared.place.Place.{Place}
-use Rattle.fix_frames.specs.declared.place.Place.TheVariants.{Passed, Unfinished, Long, Whole}
-use Rattle.fix_frames.specs.declared.place.BodyLength.{BodyLength}
-use Rattle.fix_frames.specs.declared.place.BodyLength.TheVariants.{Bad, Partial, Declared}
-use Rattle.fix_frames.specs.Frames.{header, check_sum, EndsWithSoh, IsFrame}
+use Rattle.fix_frames.specs.declared.place.Place.TheVariants.{Whole}
+use Rattle.fix_frames.specs.declared.place.BodyLength.TheVariants.{Declared}
+use Rattle.fix_frames.specs.Frames.{header, check_sum, IsFrame}
 use Rattle.fix_frames.specs.Places.{length_after, body_length, begins, begin_string, has_check_sum, is_frame, judged, place_at}
-use Rattle.fix_frames.specs.PlaceLaws.{few_more, body_length-one, body_length-two}
+use Rattle.fix_frames.specs.PlaceLaws.{body_length-two}
 
 -- ---- a frame that is spelled is found
 

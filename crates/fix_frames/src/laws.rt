@@ -47,8 +47,7 @@ pub fn whole_frames()
     // Such a frame at the front of a stream comes next, whatever follows it.
     ensures front { (frame more : List ℕ) → IsFrame frame → length frame ≤ LONGEST_FRAME →
         next_from (frame ++ more) ≡ gives 0 frame }
-{
-}
+{}
 
 /// What is written as a frame of at most `LONGEST_FRAME` bytes is a frame.
 pub fn written_frames()
@@ -61,8 +60,7 @@ pub fn written_frames()
     // Fields that are given, the first of which is MsgType (35).
     ensures fields { (content start : List ℕ) → content ≡ codes "35=" ++ start → EndsWithSoh content →
         length (wrapped content) ≤ LONGEST_FRAME → IsFrame (wrapped content) }
-{
-}
+{}
 
 /// A field is written as it is spelled where it is read.
 pub fn written_fields()
