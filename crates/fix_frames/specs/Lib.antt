@@ -1,4 +1,7 @@
+pub mod FoundLaws
+pub mod FrameLaws
 pub mod FramedLaws
+pub mod Frames
 pub mod MomentLaws
 pub mod PlaceLaws
 pub mod Places

@@ -8,18 +8,25 @@ use Rattle.fix_frames.specs.PlaceLaws.{place_at-fits, place_at-large}
 use Rattle.fix_frames.specs.Streams.{Answer, waits, exceeds, gives, advanced, answer_at, next_from, Skips, Stream, HasGiven, HasWaited, HasExceeded}
 use Rattle.fix_frames.specs.Reading.{none_yet, only_too_long, with_frames, behind, reading_from, reading_of}
 
--- a frame that comes next is not empty, and lies in the stream
+-- a frame that comes next is not empty, lies in the stream, and the places before it are passed over
 pub record LiesIn (bytes : List ℕ) (n : ℕ) (frame : List ℕ) : Type 0 where
   pub some : 0 < length frame
   pub inside : n + length frame ≤ length bytes
+  pub whole : place_at (drop n bytes) ≡ Whole (length frame)
+  pub same : take (length frame) (drop n bytes) ≡ frame
+  pub before : (k : ℕ) → k < n → place_at (drop k bytes) ≡ Passed
 
-lies_at : (place : Place) (bytes : List ℕ) (rest : Answer) (n : ℕ) (frame : List ℕ) → place_at bytes ≡ place → ((k : ℕ) → rest ≡ gives k frame → 1 + k ≡ n → LiesIn bytes n frame) → answer_at place bytes rest ≡ gives n frame → LiesIn bytes n frame
+before_more : (b : ℕ) (bs : List ℕ) (n k : ℕ) → place_at (b ∷ bs) ≡ Passed → n ≡ suc k → ((j : ℕ) → j < k → place_at (drop j bs) ≡ Passed) → (j : ℕ) → j < n → place_at (drop j (b ∷ bs)) ≡ Passed
+before_more b bs n k here e before zero l = here
+before_more b bs n k here e before (suc j) l = before j (omega arith)
+
+lies_at : (place : Place) (bytes : List ℕ) (rest : Answer) (n : ℕ) (frame : List ℕ) → place_at bytes ≡ place → ((k : ℕ) → place_at bytes ≡ Passed → rest ≡ gives k frame → 1 + k ≡ n → LiesIn bytes n frame) → answer_at place bytes rest ≡ gives n frame → LiesIn bytes n frame
 lies_at Passed bytes waits n frame e further h = absurd (cc)
 lies_at Passed bytes exceeds n frame e further h = absurd (cc)
 lies_at Passed bytes (gives k other) n frame e further h =
     let count : 1 + k ≡ n = cc in
     let same : other ≡ frame = cc in
-    further k (ap (gives k) same) count
+    further k e (ap (gives k) same) count
 lies_at Unfinished bytes rest n frame e further h = absurd (cc)
 lies_at Long bytes rest n frame e further h = absurd (cc)
 lies_at (Whole size) bytes rest n frame e further h =
@@ -28,12 +35,28 @@ lies_at (Whole size) bytes rest n frame e further h =
     let fits = place_at-fits bytes size e in
     let large = place_at-large bytes size e in
     let long : length frame ≡ size = ap length (sym same) ∙ length-take-le size bytes fits in
-    record { some = omega arith; inside = omega arith }
+    record {
+      some = omega arith;
+      inside = omega arith;
+      whole = ap (λ (m : ℕ). place_at (drop m bytes)) (sym none) ∙ e ∙ ap Whole (sym long);
+      same = ap (λ (m : ℕ). take (length frame) (drop m bytes)) (sym none) ∙ ap (λ (m : ℕ). take m bytes) long ∙ same;
+      before = λ k l. absurd (omega arith);
+    }
 
 pub lies_in : (bytes : List ℕ) (n : ℕ) (frame : List ℕ) → next_from bytes ≡ gives n frame → LiesIn bytes n frame
 lies_in [] n frame h = absurd (cc)
 lies_in (b ∷ bs) n frame h =
-    lies_at (place_at (b ∷ bs)) (b ∷ bs) (next_from bs) n frame refl (λ k e c. let more = lies_in bs k frame e in record { some = more.some; inside = omega (arith, more.inside) }) h
+    lies_at (place_at (b ∷ bs)) (b ∷ bs) (next_from bs) n frame refl (λ k here e c.
+    let more = lies_in bs k frame e in
+    let next : n ≡ suc k = omega arith in
+    let moved : drop n (b ∷ bs) ≡ drop k bs = ap (λ (m : ℕ). drop m (b ∷ bs)) next in
+    record {
+      some = more.some;
+      inside = omega (arith, more.inside);
+      whole = ap place_at moved ∙ more.whole;
+      same = ap (take (length frame)) moved ∙ more.same;
+      before = before_more b bs n k here next more.before;
+    }) h
 
 -- how far the recursion may go does not matter
 same_fuel : (f g : ℕ) (bytes : List ℕ) → length bytes < f → length bytes < g → reading_from f bytes ≡ reading_from g bytes

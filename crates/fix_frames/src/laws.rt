@@ -1,11 +1,11 @@
 //! Laws of framing. Each is the contract of a function that does nothing.
-ghost use Rattle.std.specs.Prelude.{◌≡◌, ℕ, ◌++◌, ◌∷◌, [], List, length, ◌≤◌, ◌⊎◌, codes, Some, Option, ℤ, ◌<ℤ◌, ◌≤ℤ◌};
+ghost use Rattle.std.specs.Prelude.{◌≡◌, ℕ, ◌++◌, ◌∷◌, [], List, length, take, drop, ◌<◌, ◌≤◌, ◌⊎◌, codes, Some, Option, ℤ, ◌<ℤ◌, ◌≤ℤ◌};
 ghost use Rattle.fix_fields.specs.Forms.{moment_of};
 ghost use Rattle.fix_fields.specs.Spelling.{spelling};
 ghost use Rattle.fix_write.specs.Fields.{field};
 ghost use Rattle.fix_write.specs.Framing.{wrapped, frame_of};
 ghost use Rattle.fix_write.specs.Moments.{moment_text};
-ghost use Rattle.fix_frames.specs.FramedLaws.{EndsWithSoh};
+ghost use Rattle.fix_frames.specs.Frames.{EndsWithSoh, IsFrame};
 ghost use Rattle.fix_frames.specs.Reading.{none_yet, only_too_long, with_frames, reading_of};
 ghost use Rattle.fix_frames.specs.Runs.{Call, waited, exceeded, Leads, bytes_fed, frames_given};
 ghost use Rattle.fix_frames.specs.Streams.{Stream, beginning, EndsWith, gives, next_from};
@@ -32,19 +32,34 @@ pub fn any_calls()
     ensures kept { (calls : List Call) (new : Stream) → Leads beginning calls new → EndsWith (bytes_fed calls) new }
 {}
 
-/// What is written as a frame of at most `LONGEST_FRAME` bytes is the next frame of a stream that begins with it,
-/// whatever follows it.
+/// What a framer gives is a frame, no frame is left out before it, and none that stands at the front is held back.
+/// `next_from` is what comes next in a stream, and `IsFrame` says how a frame is spelled.
+pub fn whole_frames()
+    // What comes next is a frame of at most `LONGEST_FRAME` bytes, and stands behind those that are passed over.
+    ensures given { (bytes : List ℕ) (n : ℕ) (frame : List ℕ) → next_from bytes ≡ gives n frame →
+        IsFrame frame × (length frame ≤ LONGEST_FRAME) × (take (length frame) (drop n bytes) ≡ frame) }
+
+    // No such frame begins among those that are passed over.
+    ensures first { (bytes : List ℕ) (n : ℕ) (frame : List ℕ) → next_from bytes ≡ gives n frame →
+        (k : ℕ) (other rest : List ℕ) → k < n → IsFrame other → length other ≤ LONGEST_FRAME →
+        drop k bytes ≡ other ++ rest → ⊥ }
+
+    // Such a frame at the front of a stream comes next, whatever follows it.
+    ensures front { (frame more : List ℕ) → IsFrame frame → length frame ≤ LONGEST_FRAME →
+        next_from (frame ++ more) ≡ gives 0 frame }
+{}
+
+/// What is written as a frame of at most `LONGEST_FRAME` bytes is a frame.
 pub fn written_frames()
     // A message, whose body is empty or ends with SOH.
     ensures message { (kind : ℕ) (sender target : List ℕ) (number : ℕ) (moment : ℤ) (first_sent : Option ℤ)
-        (body more : List ℕ) → (body ≡ []) ⊎ EndsWithSoh body →
+        (body : List ℕ) → (body ≡ []) ⊎ EndsWithSoh body →
         length (frame_of kind sender target number moment first_sent body) ≤ LONGEST_FRAME →
-        next_from (frame_of kind sender target number moment first_sent body ++ more)
-        ≡ gives 0 (frame_of kind sender target number moment first_sent body) }
+        IsFrame (frame_of kind sender target number moment first_sent body) }
 
     // Fields that are given, the first of which is MsgType (35).
-    ensures fields { (content start more : List ℕ) → content ≡ codes "35=" ++ start → EndsWithSoh content →
-        length (wrapped content) ≤ LONGEST_FRAME → next_from (wrapped content ++ more) ≡ gives 0 (wrapped content) }
+    ensures fields { (content start : List ℕ) → content ≡ codes "35=" ++ start → EndsWithSoh content →
+        length (wrapped content) ≤ LONGEST_FRAME → IsFrame (wrapped content) }
 {}
 
 /// A field is written as it is spelled where it is read.

@@ -3,7 +3,7 @@
 
 pub mod framer;
 pub mod laws;
-pub mod place;
+mod place;
 pub mod reading;
 
 pub use fix_fields::LONGEST_FRAME;
