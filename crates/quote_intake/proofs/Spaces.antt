@@ -1,7 +1,7 @@
 -- The words of a line round its first space.
 use Rattle.std.proofs.Common.{◌≡◌, ℕ, ◌+◌, ◌<◌, ◌≤◌, ◌==◌, Bool, true, false, not, suc, List, [], ◌∷◌, Some, None, take, drop, length, cond, nat_lt, arith, position, refl}
 use Rattle.std.proofs.lemmas.Bool.Decides.{nat_tests}
-use Rattle.std.specs.List.{position_or_len, slice_split, onto_first}
+use Rattle.std.specs.List.{position_or_len, onto_first}
 use Rattle.std.proofs.lemmas.List.Splits.{slice_split_first}
 use Rattle.quote_intake.specs.Words.{words_of}
 

@@ -1,4 +1,4 @@
-use Rattle.std.proofs.Common.{arith, ◌≡◌, ◌<◌, ◌≤◌, ◌^◌, lit<}
+use Rattle.std.proofs.Common.{arith, ◌≤◌, ◌^◌, lit<}
 use Rattle.std.proofs.Math.Nat.{pow-le-pow_right}
 use Rattle.quote_intake.proofs.prices.digits.Goals as goal
 
