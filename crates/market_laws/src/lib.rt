@@ -1,0 +1,7 @@
+//! Laws of the market's rules: what holds of the reports and of the book after every history. Each law is a statement of
+//! `specs/`, proved as the contract of a function that does nothing.
+#![tactic(auto)]
+
+mod histories;
+
+pub use histories::history_goes_on;
