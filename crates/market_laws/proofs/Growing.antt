@@ -1,12 +1,11 @@
 -- The reports of a history begin with those of each of its beginnings.
-use Rattle.std.proofs.Common.{◌≡◌, ℕ, ◌++◌, List, [], ◌∷◌, refl, ◌∙◌, sym, ap, append_assoc}
+use Rattle.std.proofs.Common.{◌≡◌, ℕ, ◌++◌, List, [], ◌∷◌, ◌∙◌, sym, ap, append_assoc}
 use Rattle.std.specs.Prelude.{fold}
 use Rattle.std.proofs.lemmas.List.{append-nil}
 use Rattle.std.proofs.lemmas.List.Sums.{fold-append}
 use Rattle.venue_words.specs.declared.command.Event.{Event}
-use Rattle.venue_words.specs.declared.report.Report.{Report}
 use Rattle.eager_meaning.specs.Step.{Run, runs, step, outcome_of, reports_from}
-use Rattle.market_laws.specs.Histories.{BeginWith, GoesOn, HistoryGoesOn}
+use Rattle.market_laws.specs.Histories.{BeginWith, HistoryGoesOn}
 
 -- the reports of more events
 reports_grow : (tick : ℕ) (run : Run) (events : List Event) → BeginWith run.reports (fold (step tick) run events).reports

@@ -3,5 +3,7 @@
 #![tactic(auto)]
 
 mod histories;
+mod replies;
 
 pub use histories::history_goes_on;
+pub use replies::{new_is_answered_once, reports_are_in_place};
