@@ -1,3 +1,11 @@
+pub mod Bounding
 pub mod Growing
+pub mod Lasting
 pub mod Lists
+pub mod Living
+pub mod Meeting
 pub mod Replying
+pub mod Settling
+pub mod Siding
+pub mod Telling
+pub mod Walking

@@ -1,2 +1,4 @@
 pub mod Histories
+pub mod Placed
 pub mod Replies
+pub mod Trading

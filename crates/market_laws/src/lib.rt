@@ -4,6 +4,8 @@
 
 mod histories;
 mod replies;
+mod trades;
 
 pub use histories::history_goes_on;
 pub use replies::{new_is_answered_once, reports_are_in_place};
+pub use trades::{bought_shares_are_sold, trades_are_within_quote};
