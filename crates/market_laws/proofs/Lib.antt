@@ -1,0 +1,13 @@
+pub mod Bounding
+pub mod Growing
+pub mod Lasting
+pub mod Lists
+pub mod Living
+pub mod Meeting
+pub mod Numbering
+pub mod Replying
+pub mod Settling
+pub mod Siding
+pub mod Summing
+pub mod Telling
+pub mod Walking

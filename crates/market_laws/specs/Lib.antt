@@ -1,0 +1,5 @@
+pub mod Histories
+pub mod Orders
+pub mod Placed
+pub mod Replies
+pub mod Trading

@@ -1,0 +1,13 @@
+//! Laws of the market's rules: what holds of the reports and of the book after every history. Each law is a statement of
+//! `specs/`, proved as the contract of a function that does nothing.
+#![tactic(auto)]
+
+mod histories;
+mod orders;
+mod replies;
+mod trades;
+
+pub use histories::history_goes_on;
+pub use orders::cum_is_sum_of_trades;
+pub use replies::{new_is_answered_once, reports_are_in_place};
+pub use trades::{bought_shares_are_sold, trades_are_within_quote};
