@@ -80,7 +80,8 @@ fn count_rows(places: &[Place]) -> usize
 /// Whether the row of a place is there, and none behind it has its key.
 fn is_last_of_key(places: &[Place], i: usize) -> bool
     requires within { i < length places.now }
-    ensures { (place : Place) × (slice_get places.now i ≡ Some place) × (result ≡ (is_filled place && not (list_any (λ other. is_filled other && same_key place.key other.key) (drop (i + 1) places.now)))) }
+    ensures { (place : Place) × (slice_get places.now i ≡ Some place) × (result ≡ (is_filled place && not (list_any
+        (λ other. is_filled other && same_key place.key other.key) (drop (i + 1) places.now)))) }
 {
     let place = place_at(places, i);
     if place.node.is_none() {
@@ -136,7 +137,9 @@ fn put_in_place(places: &mut Vec<Place>, taken: Taken)
 
 /// The value and the time of the row of a key, a cap and an entry.
 fn price_of_row(places: &[Place], key: Key, cap: u32, entry: u32) -> Option<(Option<u32>, u32)>
-    ensures found { MatchOption result (AllByRecursion (λ place. IsThere key cap entry place → ⊥) places.now) (λ pair. (i : ℕ) × (place : Place) × (slice_get places.now i ≡ Some place) × IsThere key cap entry place × (place.value ≡ pair.0) × (place.time ≡ pair.1)) }
+    ensures found { MatchOption result (AllByRecursion (λ place. IsThere key cap entry place → ⊥) places.now)
+        (λ pair. (i : ℕ) × (place : Place) × (slice_get places.now i ≡ Some place) × IsThere key cap entry place
+        × (place.value ≡ pair.0) × (place.time ≡ pair.1)) }
 {
     match find(places, key, cap, entry) {
         None => None,
