@@ -19,7 +19,8 @@ use std::marker::Model;
 use std::sync::ledger::Ledger;
 use venue_words::{Best, Key, NoMemory, Row, Steps};
 
-/// A side that keeps each row with its value and time.
+/// A side that keeps each row with its value and time in a place of a plain list. A row that is out keeps its place
+/// until `tidy`. Its width is the number of places, with those that `reserve` made; its visits are the number of rows.
 #[derive(Drop)]
 pub struct FlatSide {
     places: Vec<Place>,
