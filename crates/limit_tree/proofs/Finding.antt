@@ -1,14 +1,14 @@
 -- What the look-ups find on either side of a row.
-use Rattle.std.proofs.Common.{◌≡◌, ◌≢◌, ◌⊎◌, ℕ, ◌+◌, ◌*◌, ◌^◌, ◌<◌, ◌≤◌, min, Bool, true, false, cond, ◌&&◌, ◌||◌, eqb, List, [], ◌∷◌, ◌++◌, length, refl, ap, sym, ◌∙◌, subst, arith, Option, Some, None, inl, inr}
-use Rattle.std.proofs.lemmas.Bool.{eq-eqb, eqb-true, ne_eqb, cases_eq, cases_lt, and_parts, or_cases, or_left, or_right, both_ways, false_from_ne_true, eqb-false}
+use Rattle.std.proofs.Common.{◌≡◌, ◌≢◌, ◌⊎◌, ℕ, ◌^◌, ◌<◌, ◌≤◌, min, true, false, eqb, List, [], ◌∷◌, ◌++◌, refl, sym, ◌∙◌, subst, arith, Option, Some, None, inl, inr}
+use Rattle.std.proofs.lemmas.Bool.{eqb-true, cases_lt, and_parts, or_cases, or_left, or_right, both_ways, false_from_ne_true, eqb-false}
 use Rattle.std.specs.Bool.{MatchBool}
 use Rattle.std.specs.List.{AllByRecursion}
 use Rattle.venue_words.specs.ListLaws.{all_both, all_weaken, all_append}
 use Rattle.venue_words.specs.declared.row.Row.{Row}
-use Rattle.limit_tree.specs.Order.{rank, row_rank, IsAt, IsOrdered, IsNumbered, is_held, least_entry}
-use Rattle.limit_tree.specs.Looks.{FindsLeast, FindsGreatestBelow, FindsLeastEntry, FindsGreatestCap, IsLeastWhere, IsGreatestCap, IsGreatestBelow}
+use Rattle.limit_tree.specs.Order.{rank, row_rank, IsOrdered, IsNumbered, is_held, least_entry}
+use Rattle.limit_tree.specs.Looks.{FindsLeast, FindsGreatestBelow, FindsLeastEntry, FindsGreatestCap, IsLeastWhere, IsGreatestCap}
 use Rattle.limit_tree.proofs.InOrder.{all_front, all_back, ordered_back}
-use Rattle.limit_tree.proofs.Inserting.{before_middle, numbered_middle, IsSplit}
+use Rattle.limit_tree.proofs.Inserting.{before_middle, numbered_middle}
 use Rattle.limit_tree.proofs.Searching.{tests, tests-same}
 
 -- a pair that is held in front or behind

@@ -1,9 +1,9 @@
 -- How high a balanced tree of rows with different pairs can be.
-use Rattle.std.proofs.Common.{◌≡◌, ℕ, zero, suc, ◌+◌, ◌-◌, ◌*◌, ◌^◌, ◌<◌, ◌≤◌, max, List, [], ◌∷◌, ◌++◌, length, refl, ap, sym, subst, inl, inr, arith, lit<, length-append, add-one, zero-add}
+use Rattle.std.proofs.Common.{◌≡◌, ℕ, zero, suc, ◌+◌, ◌-◌, ◌^◌, ◌<◌, ◌≤◌, max, List, [], ◌∷◌, length, refl, subst, inl, inr, arith, lit<, zero-add}
 use Rattle.std.proofs.lemmas.Bool.{cases_order}
 use Rattle.std.specs.List.{AllByRecursion}
 use Rattle.venue_words.specs.declared.row.Row.{Row}
-use Rattle.limit_tree.specs.Order.{rank, row_rank, IsOrdered, IsNumbered}
+use Rattle.limit_tree.specs.Order.{row_rank, IsOrdered}
 use Rattle.limit_tree.specs.Part.{series, fewest, DifferByAtMost}
 
 series-step : (a b n : ℕ) → series a b (suc (suc n)) ≡ series a b n + series a b (suc n)

@@ -1,7 +1,6 @@
 -- Rows in order, and parts of them.
-use Rattle.std.proofs.Common.{◌≡◌, ℕ, ◌+◌, ◌<◌, ◌≤◌, List, [], ◌∷◌, ◌++◌, length, refl, ap, sym, ◌∙◌, subst, append_assoc, arith}
+use Rattle.std.proofs.Common.{◌<◌, List, [], ◌∷◌, ◌++◌, append_assoc}
 use Rattle.std.specs.List.{AllByRecursion}
-use Rattle.venue_words.specs.ListLaws.{all_weaken, all_append}
 use Rattle.venue_words.specs.declared.row.Row.{Row}
 use Rattle.venue_words.specs.ListLaws.{all_parts}
 use Rattle.limit_tree.specs.Order.{row_rank, IsOrdered}

@@ -1,10 +1,10 @@
 -- A row that enters among rows in order.
-use Rattle.std.proofs.Common.{◌≡◌, ◌≢◌, ℕ, ◌+◌, ◌*◌, ◌^◌, ◌<◌, ◌≤◌, Bool, true, false, cond, ltb, eqb, ◌&&◌, ◌||◌, List, [], ◌∷◌, ◌++◌, length, refl, ap, sym, ◌∙◌, subst, arith, length-append}
+use Rattle.std.proofs.Common.{◌≡◌, ◌≢◌, ℕ, ◌<◌, ◌≤◌, Bool, true, false, cond, ltb, eqb, ◌&&◌, ◌||◌, List, [], ◌∷◌, ◌++◌, length, refl, ap, sym, ◌∙◌, arith, length-append}
 use Rattle.std.proofs.lemmas.Bool.{ltb-true, ltb-false, lt-ltb, le-ltb, eq-eqb}
 use Rattle.std.specs.List.{AllByRecursion}
 use Rattle.venue_words.specs.ListLaws.{all_weaken}
 use Rattle.venue_words.specs.declared.row.Row.{Row}
-use Rattle.limit_tree.specs.Order.{rank, row_rank, IsOrdered, IsNumbered, IsFree, insert_row, is_held}
+use Rattle.limit_tree.specs.Order.{row_rank, IsOrdered, IsNumbered, IsFree, insert_row, is_held}
 use Rattle.limit_tree.proofs.InOrder.{all_front, all_back}
 
 or_second : (a b : Bool) → (a || b) ≡ false → b ≡ false

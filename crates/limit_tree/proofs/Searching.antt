@@ -1,10 +1,10 @@
 -- Where a pair stands among rows in order.
-use Rattle.std.proofs.Common.{◌≡◌, ◌≢◌, ℕ, ◌+◌, ◌*◌, ◌^◌, ◌<◌, ◌≤◌, Bool, true, false, cond, ◌&&◌, ◌||◌, eqb, List, [], ◌∷◌, ◌++◌, length, refl, ap, sym, ◌∙◌, subst, arith, Option, Some, None, inl, inr}
+use Rattle.std.proofs.Common.{◌≡◌, ◌≢◌, ℕ, ◌<◌, ◌≤◌, Bool, true, false, cond, ◌&&◌, ◌||◌, eqb, List, [], ◌∷◌, ◌++◌, refl, ap, ◌∙◌, arith, Some, None, inl, inr}
 use Rattle.std.proofs.lemmas.Bool.{eq-eqb, ne_eqb, cases_eq, and_left, and_right, and_from}
 use Rattle.std.specs.List.{AllByRecursion}
 use Rattle.venue_words.specs.ListLaws.{all_weaken}
 use Rattle.venue_words.specs.declared.row.Row.{Row}
-use Rattle.limit_tree.specs.Order.{rank, row_rank, IsAt, IsOrdered, IsNumbered, without_row, row_at, is_held}
+use Rattle.limit_tree.specs.Order.{rank, row_rank, IsAt, IsOrdered, without_row, row_at, is_held}
 use Rattle.limit_tree.proofs.InOrder.{ordered_back}
 use Rattle.limit_tree.proofs.Inserting.{before_middle, IsSplit}
 

@@ -1,5 +1,5 @@
 -- What a look-up answers, by the rows alone.
-use Rattle.std.specs.Prelude.{◌≡◌, ◌≢◌, ℕ, ◌+◌, ◌<◌, ◌≤◌, List, [], ◌∷◌, Option, Some, None, true, MatchOption}
+use Rattle.std.specs.Prelude.{◌≡◌, ℕ, ◌<◌, ◌≤◌, List, Option, true, MatchOption}
 use Rattle.std.specs.List.{AllByRecursion}
 use Rattle.venue_words.specs.declared.row.Row.{Row}
 use Rattle.limit_tree.specs.Order.{is_held}

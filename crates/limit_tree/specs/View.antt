@@ -1,5 +1,5 @@
 -- How a node is seen, and what holds of every node.
-use Rattle.std.specs.Prelude.{◌≡◌, ℕ, ◌+◌, ◌^◌, ◌<◌, ◌≤◌, max, List, [], ◌∷◌, ◌++◌, length}
+use Rattle.std.specs.Prelude.{◌≡◌, ◌+◌, ◌≤◌, max, ◌∷◌, ◌++◌, length}
 use Rattle.limit_tree.specs.Part.{Part, DifferByAtMost, fewest}
 use Rattle.limit_tree.specs.Link.{link_rows, link_height}
 use Rattle.limit_tree.specs.Order.{IsOrdered, least_entry}

@@ -64,7 +64,8 @@ pub fn balance(left: Option<Box<Node>>, node: Box<Node>, right: Option<Box<Node>
     ensures rows { result.value.rows ≡ link_rows left ++ node.value.row ∷ link_rows right }
     ensures not_lower { max (link_height left) (link_height right) ≤ result.value.height }
     ensures at_most_one_higher { result.value.height ≤ max (link_height left) (link_height right) + 1 }
-    ensures even { DifferByAtMost 1 (link_height left) (link_height right) → result.value.height ≡ max (link_height left) (link_height right) + 1 }
+    ensures even { DifferByAtMost 1 (link_height left) (link_height right)
+        → result.value.height ≡ max (link_height left) (link_height right) + 1 }
 {
     let left_height = height_of(&left);
     let right_height = height_of(&right);

@@ -7,13 +7,19 @@ ghost use Rattle.limit_tree.specs.Part.{IsLeaf, DifferByAtMost, fewest};
 use std::marker::Model;
 use venue_words::Row;
 
-/// A row of the tree, with the part of the tree below it.
+/// A row of the tree, with the part of the tree below it. Contracts see the row of a node and the list of
+/// all rows of its part. Rows stand in order of cap and entry, and the two sides of each node differ in height by
+/// one at most, so a part is less than 92 levels high.
 #[derive(Drop)]
 pub struct Node {
+    /// The row's cap: the value of its limit, in units of 0.005.
     pub cap: u32,
+    /// The row's entry: the number of the event at which it entered.
     pub entry: u32,
     pub row: Row,
+    /// The least entry of the part.
     pub least: u32,
+    /// The height of the part.
     pub height: u32,
     pub left: Option<Box<Node>>,
     pub right: Option<Box<Node>>,
@@ -38,7 +44,7 @@ impl Model for Node {
     ghost size_decreases = { λ a h. Prim.grind (arith, length-append) };
 }
 
-/// The row as a node without children.
+/// The row as a node without children. The caller boxes it, so that entering a tree takes no memory.
 pub fn leaf(row: Row) -> Node
     ensures row { result.row ≡ row }
     ensures rows { result.rows ≡ row ∷ [] }
@@ -54,7 +60,7 @@ pub fn leaf(row: Row) -> Node
     }
 }
 
-/// Shares of the node's row are traded.
+/// So many shares of the row of a node that is out of its tree are traded.
 pub fn fill(node: &mut Node, quantity: u32)
     requires alone { IsLeaf node.old }
     requires within { quantity ≤ node.old.row.leaves }

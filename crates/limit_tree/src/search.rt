@@ -135,7 +135,8 @@ pub fn least_above<L: Ledger>(
 /// Whether a part has an entry that is below none of its entries.
 pub fn has_least(link: &Option<Box<Node>>, entry: u32) -> bool
     requires { AllByRecursion (λ row. entry ≤ row.entry) (link_rows link.now) }
-    ensures { MatchBool result ((cap : ℕ) × (is_held cap entry (link_rows link.now) ≡ true)) ((cap : ℕ) → is_held cap entry (link_rows link.now) ≡ false) }
+    ensures { MatchBool result ((cap : ℕ) × (is_held cap entry (link_rows link.now) ≡ true)) ((cap : ℕ)
+        → is_held cap entry (link_rows link.now) ≡ false) }
 {
     match link {
         None => false,

@@ -12,7 +12,8 @@ use std::marker::Model;
 use std::sync::ledger::Ledger;
 use venue_words::Steps;
 
-/// Rows in a tree, seen as their list in order of cap and entry.
+/// The rows of one group of orders by the value of their limit, which is `cap`, and by entry. Contracts see them as
+/// the list in order of cap and entry. No call takes memory; each visits at most 256 nodes.
 #[derive(Drop)]
 pub struct LimitTree {
     root: Option<Box<Node>>,
@@ -50,7 +51,7 @@ impl LimitTree {
         }
     }
 
-    /// Enters a row.
+    /// Enters a row, where none with its cap and entry is held: `holds` is the test.
     pub fn put<L: Ledger>(&mut self, node: Box<Node>, steps: &mut Steps<L>)
         requires alone { IsLeaf node.value }
         requires free { is_held node.value.row.cap node.value.row.entry self.old ≡ false }
@@ -64,7 +65,7 @@ impl LimitTree {
         self.root = Some(put_into(root, node, steps));
     }
 
-    /// Takes the row of a pair out.
+    /// Takes the row of a cap and an entry out; none, and nothing changes, where it is not held.
     pub fn cut<L: Ledger>(
         &mut self,
         cap: u32,
@@ -84,7 +85,7 @@ impl LimitTree {
         found
     }
 
-    /// Whether a pair is held.
+    /// Whether a row of this cap and entry is held.
     pub fn holds<L: Ledger>(&self, cap: u32, entry: u32, steps: &mut Steps<L>) -> bool
         ensures held { result ≡ is_held cap entry self.now }
         ensures ticks { steps.old + 1 ≤ steps.new }
@@ -94,7 +95,7 @@ impl LimitTree {
         is_in(&self.root, cap, entry, steps)
     }
 
-    /// The pair of least entry among the caps equal to the value.
+    /// The cap and entry of the row with the least entry among those whose cap is the value.
     pub fn first_at<L: Ledger>(&self, value: u32, steps: &mut Steps<L>) -> Option<(u32, u32)>
         ensures found { FindsLeast (λ cap. cap ≡ value) self.now result }
         ensures ticks { steps.old + 1 ≤ steps.new }
@@ -104,7 +105,7 @@ impl LimitTree {
         first_in(&self.root, value, steps)
     }
 
-    /// The pair of least entry among the caps above the value.
+    /// The cap and entry of the row with the least entry among those whose cap is above the value.
     pub fn first_above<L: Ledger>(&self, value: u32, steps: &mut Steps<L>) -> Option<(u32, u32)>
         ensures found { FindsLeast (λ cap. value < cap) self.now result }
         ensures ticks { steps.old + 1 ≤ steps.new }
@@ -117,7 +118,7 @@ impl LimitTree {
         }
     }
 
-    /// The pair of the greatest cap below the value, and of the least entry there.
+    /// The greatest cap below the value, and the least entry among its rows.
     pub fn highest_below<L: Ledger>(&self, value: u32, steps: &mut Steps<L>) -> Option<(u32, u32)>
         ensures found { FindsGreatestBelow value self.now result }
         ensures ticks { steps.old + 1 ≤ steps.new }

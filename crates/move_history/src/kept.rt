@@ -49,7 +49,8 @@ pub fn keep<L: Ledger>(kept: &mut Vec<KeptMove>, next: KeptMove, steps: &mut Ste
     requires room { vec_len kept.old < vec_capacity kept.old }
     ensures rising { IsRising kept.new.items }
     ensures lows { AreLowsAtMost next.low kept.new.items }
-    ensures changes { (cap : ℕ) → last_below cap 0 kept.new.items ≡ (if nat_lt next.low cap then next.event else last_below cap 0 kept.old.items) }
+    ensures changes { (cap : ℕ) → last_below cap 0 kept.new.items ≡
+        (if nat_lt next.low cap then next.event else last_below cap 0 kept.old.items) }
     ensures capacity { vec_capacity kept.old ≤ vec_capacity kept.new }
     ensures len { vec_len kept.new ≤ vec_len kept.old + 1 }
     ensures ticks { steps.old + 1 ≤ steps.new }

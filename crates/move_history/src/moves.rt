@@ -74,7 +74,8 @@ impl Moves {
 
         ensures current { self.new.current ≡ value }
         ensures latest { self.new.latest ≡ event }
-        ensures changes { (cap : ℕ) → last_change self.new cap ≡ (if min self.old.current cap == min value cap then last_change self.old cap else event) }
+        ensures changes { (cap : ℕ) → last_change self.new cap ≡
+            (if min self.old.current cap == min value cap then last_change self.old cap else event) }
         ensures tells { (history : History) → Tells self.old history → Tells self.new (moved history event value) }
 
         ensures room { self.old.room ≤ self.new.room + 1 }
@@ -97,7 +98,8 @@ impl Moves {
         ensures told { (history : History) → Tells self.now history → result ≡ changed history cap }
 
         // All caps above the value that it ends with have one answer.
-        ensures same_above { (other : ℕ) → self.now.current < cap → self.now.current < other → last_change self.now other ≡ result }
+        ensures same_above { (other : ℕ) → self.now.current < cap → self.now.current < other
+            → last_change self.now other ≡ result }
 
         ensures ticks { steps.old + 1 ≤ steps.new }
         ensures most { steps.new ≤ steps.old + 64 }

@@ -1,8 +1,8 @@
 -- How many rows a side has, and that there are few.
-use Rattle.std.proofs.Common.{◌≡◌, ℕ, suc, ◌+◌, ◌^◌, ◌<◌, ◌≤◌, Bool, true, false, cond, ltb, eqb, List, [], ◌∷◌, length, Option, Some, None, refl, ap, arith}
+use Rattle.std.proofs.Common.{◌≡◌, ℕ, suc, ◌+◌, ◌^◌, ◌<◌, ◌≤◌, true, false, cond, ltb, eqb, List, [], ◌∷◌, length, Some, refl, ap, arith}
 use Rattle.std.specs.List.{AllByRecursion}
 use Rattle.venue_words.specs.Retime.{reprice}
-use Rattle.venue_words.specs.ListLaws.{all_weaken, all_both}
+use Rattle.venue_words.specs.ListLaws.{all_weaken}
 use Rattle.venue_words.specs.declared.price.Best.{Best}
 use Rattle.venue_words.specs.declared.row.Key.{Key}
 use Rattle.venue_words.specs.declared.row.Priced.{Priced}

@@ -1,12 +1,11 @@
 -- The rows of a flat side, when a row enters a place or leaves it.
-use Rattle.std.proofs.Common.{◌≡◌, ◌≢◌, ℕ, zero, suc, ◌<◌, ◌≤◌, Bool, true, false, cond, eqb, List, [], ◌∷◌, ◌++◌, length, set, Option, Some, None, refl, ap, sym, ◌∙◌, subst, arith, slice_get}
+use Rattle.std.proofs.Common.{◌≡◌, ℕ, zero, suc, ◌<◌, ◌≤◌, true, false, cond, eqb, List, [], ◌∷◌, ◌++◌, set, Option, Some, None, refl, ap, sym, ◌∙◌, subst, arith, slice_get}
 use Rattle.std.proofs.lemmas.Bool.{eqb-true}
 use Rattle.std.specs.List.{AllByRecursion}
 use Rattle.std.specs.Option.{MatchOption}
 use Rattle.std.specs.declared.alloc.Global.{Global}
 use Rattle.std.specs.declared.boxed.Box.{Box}
 use Rattle.limit_tree.specs.Part.{Part}
-use Rattle.venue_words.specs.Conditions.{IsKey}
 use Rattle.venue_words.specs.ListLaws.{all_both}
 use Rattle.venue_words.specs.Rows.{IsAbsent, IsByEntry, insert_by_entry, row_by_entry, without_entry}
 use Rattle.venue_words.specs.declared.row.Priced.{Priced}

@@ -1,5 +1,5 @@
 -- What each call of a flat side leaves.
-use Rattle.std.proofs.Common.{◌≡◌, ℕ, zero, suc, ◌+◌, ◌<◌, ◌≤◌, Bool, true, false, List, [], ◌∷◌, ◌++◌, length, set, take, Option, Some, None, refl, ap, sym, ◌∙◌, subst, arith, slice_get, is_some}
+use Rattle.std.proofs.Common.{◌≡◌, ℕ, zero, suc, ◌<◌, true, false, List, [], ◌∷◌, ◌++◌, length, set, Option, Some, None, refl, ap, sym, ◌∙◌, subst, arith, slice_get, is_some}
 use Rattle.std.specs.List.{AllByRecursion}
 use Rattle.std.specs.Option.{IfSome, IsNone, MatchOption}
 use Rattle.std.specs.declared.alloc.Global.{Global}
@@ -13,8 +13,8 @@ use Rattle.venue_words.specs.declared.price.Best.{Best}
 use Rattle.venue_words.specs.declared.row.Key.{Key}
 use Rattle.venue_words.specs.declared.row.Priced.{Priced}
 use Rattle.venue_words.specs.declared.row.Row.{Row}
-use Rattle.peg_groups.specs.Flat.{ArePlaces, FillsPlace, FlatView, IsFlat, IsNodeOf, IsPlace, IsThere, KeepsStanding, TakesBest, TakesOut, flat_state, place_standing, place_value, row_with, rows_in, value_if_there, with_node, without_node, place_before}
-use Rattle.peg_groups.specs.Side.{IsCut, IsHeldAt, NoneAt, Standing, entered, standing_of, taken_row, without}
+use Rattle.peg_groups.specs.Flat.{ArePlaces, FillsPlace, IsNodeOf, IsPlace, IsThere, KeepsStanding, TakesBest, TakesOut, place_standing, place_value, row_with, rows_in, value_if_there, with_node, without_node, place_before}
+use Rattle.peg_groups.specs.Side.{IsCut, IsHeldAt, NoneAt, Standing, entered, standing_of, taken_row}
 use Rattle.peg_groups.specs.declared.flat.Place.{Place}
 use Rattle.peg_groups.specs.declared.side_book.Taken.{Taken}
 use Rattle.peg_groups.proofs.FlatRows.{absent_after, in_at, out_at, places_added, rows_added}

@@ -1,14 +1,12 @@
 -- A flat side after each of its calls.
-use Rattle.std.proofs.Common.{◌≡◌, ℕ, zero, suc, ◌+◌, ◌<◌, ◌≤◌, Bool, true, false, not, ◌&&◌, ◌||◌, cond, List, [], ◌∷◌, ◌++◌, length, map, filter, drop, set, Option, Some, None, refl, ap, sym, ◌∙◌, subst, arith, slice_get, is_some, nat_eq}
+use Rattle.std.proofs.Common.{◌≡◌, ℕ, suc, ◌+◌, ◌<◌, ◌≤◌, Bool, true, false, not, ◌&&◌, ◌||◌, cond, List, [], ◌∷◌, length, map, filter, Option, Some, None, refl, ap, sym, ◌∙◌, subst, arith, is_some, nat_eq}
 use Rattle.std.specs.List.{AllByRecursion, list_any}
 use Rattle.std.specs.Option.{MatchOption, option_eq}
 use Rattle.std.specs.declared.alloc.Global.{Global}
 use Rattle.std.specs.declared.boxed.Box.{Box}
 use Rattle.limit_tree.specs.Part.{Part}
-use Rattle.venue_words.specs.Conditions.{IsKey}
-use Rattle.venue_words.specs.FirstRow.{IsFirst, NoneActive}
+use Rattle.venue_words.specs.FirstRow.{NoneActive}
 use Rattle.venue_words.specs.Key.{same_key}
-use Rattle.venue_words.specs.ListLaws.{all_weaken}
 use Rattle.venue_words.specs.Peg.{peg_value, row_value, value_under}
 use Rattle.venue_words.specs.Priority.{before, is_ahead_if_active}
 use Rattle.venue_words.specs.Retime.{reprice, retime}
@@ -16,10 +14,10 @@ use Rattle.venue_words.specs.Rows.{IsAbsent, insert_by_entry}
 use Rattle.venue_words.specs.declared.price.Best.{Best}
 use Rattle.venue_words.specs.declared.row.Key.{Key}
 use Rattle.venue_words.specs.declared.row.Priced.{Priced}
-use Rattle.peg_groups.specs.Flat.{ArePlaces, IsBestPlace, IsNodeOf, IsPlace, IsThere, KeepsStanding, among, is_filled, place_before, place_standing, place_value, repriced, row_with, rows_in, value_if_there}
+use Rattle.peg_groups.specs.Flat.{ArePlaces, IsNodeOf, IsPlace, IsThere, among, is_filled, place_before, place_value, repriced, row_with, rows_in, value_if_there}
 use Rattle.peg_groups.specs.KeyCount.{has_key, key_count}
 use Rattle.peg_groups.specs.Merge.{map-insert}
-use Rattle.peg_groups.specs.Side.{IsPlaced, NoneAt, Standing}
+use Rattle.peg_groups.specs.Side.{IsPlaced, NoneAt}
 use Rattle.peg_groups.specs.declared.flat.Place.{Place}
 use Rattle.peg_groups.proofs.Counting.{length_insert}
 use Rattle.peg_groups.proofs.FlatRows.{among_each, each_among}

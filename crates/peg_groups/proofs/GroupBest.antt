@@ -1,13 +1,13 @@
 -- Which row of a group goes first.
-use Rattle.std.proofs.Common.{◌≡◌, ◌≢◌, ◌⊎◌, ℕ, ◌<◌, ◌≤◌, min, max, Bool, true, false, cond, ltb, eqb, List, [], ◌∷◌, Option, Some, None, refl, ap, sym, ◌∙◌, subst, arith, inl, inr}
-use Rattle.std.proofs.lemmas.Bool.{eq-eqb, ne_eqb, lt-ltb, le-ltb, ltb-true, ltb-false, eqb-true, eqb-false, cases_order, cases_eq}
+use Rattle.std.proofs.Common.{◌≡◌, ℕ, ◌<◌, ◌≤◌, min, true, false, List, [], ◌∷◌, refl, ap, sym, ◌∙◌, subst, arith, inl, inr}
+use Rattle.std.proofs.lemmas.Bool.{cases_order, cases_eq}
 use Rattle.venue_words.specs.declared.row.Row.{Row}
 use Rattle.venue_words.specs.Priority.{is_ahead}
 use Rattle.std.specs.List.{AllByRecursion}
 use Rattle.std.proofs.lemmas.Bool.Decides.{nat_tests}
 use Rattle.venue_words.specs.ListLaws.{all_both, all_weaken}
 use Rattle.limit_tree.specs.Order.{is_held}
-use Rattle.limit_tree.specs.Looks.{FindsLeast, IsLeastWhere, IsGreatestBelow}
+use Rattle.limit_tree.specs.Looks.{IsLeastWhere, IsGreatestBelow}
 use Rattle.move_history.specs.Staircase.{Staircase, last_change}
 use Rattle.peg_groups.specs.Group.{time_in, IsGroupBest, IsNotAfter}
 

@@ -13,10 +13,10 @@ use Rattle.move_history.specs.Staircase.{Staircase}
 use Rattle.venue_words.specs.Rows.{IsByEntry, IsAbsent, insert_by_entry, row_by_entry, without_entry}
 use Rattle.peg_groups.specs.Side.{Standing}
 use Rattle.peg_groups.specs.Group.{priced_in}
-use Rattle.peg_groups.specs.Groups.{merged, rows_of, AreApart, EachGroup, IsRowOf, IsGroup, AreGroups, HasMoves, HasGroup, FitsGroup, with_rows}
+use Rattle.peg_groups.specs.Groups.{merged, rows_of, AreApart, EachGroup, IsRowOf, IsGroup, AreGroups, HasMoves, FitsGroup, with_rows}
 use Rattle.peg_groups.specs.declared.group.Group.{Group}
 use Rattle.peg_groups.specs.Merge.{each_insert, each_inserted}
-use Rattle.peg_groups.proofs.Merged.{all_insert, all_without, each_merged, merged_each, merged_insert, merged_other, by_entry_merged, merged_without_other, merged_without, apart_kept, apart_insert, apart_other, apart_without, row_of_merged, not_held}
+use Rattle.peg_groups.proofs.Merged.{all_insert, all_without, merged_each, merged_insert, merged_other, by_entry_merged, merged_without_other, merged_without, apart_kept, apart_insert, apart_other, apart_without, row_of_merged, not_held}
 
 -- the group with a number
 pub record IsThere (key : Key) (group : Group) (item : Key × Group) : Type 0 where

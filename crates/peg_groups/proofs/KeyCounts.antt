@@ -1,7 +1,6 @@
 -- How the number of keys changes where a row enters, and what it is for groups of keys.
-use Rattle.std.proofs.Common.{◌≡◌, ℕ, suc, ◌+◌, Bool, true, false, not, cond, ltb, ◌||◌, List, [], ◌∷◌, length, filter, refl, ap, sym, ◌∙◌, subst, arith}
+use Rattle.std.proofs.Common.{◌≡◌, ℕ, ◌+◌, Bool, true, false, not, cond, ltb, ◌||◌, List, [], ◌∷◌, length, filter, refl, ap, sym, ◌∙◌, subst, arith}
 use Rattle.std.specs.List.{AllByRecursion}
-use Rattle.venue_words.specs.ListLaws.{all_weaken}
 use Rattle.venue_words.specs.Key.{same_key}
 use Rattle.venue_words.specs.KeyLaws.{same_key-equal, same_key-self}
 use Rattle.venue_words.specs.declared.price.Best.{Best}

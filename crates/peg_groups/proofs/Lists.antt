@@ -1,5 +1,5 @@
 -- The elements of a list by their places.
-use Rattle.std.proofs.Common.{◌≡◌, ℕ, zero, suc, ◌+◌, ◌<◌, ◌≤◌, List, [], ◌∷◌, length, get_or, take, drop, Option, Some, None, refl, ap, sym, arith, add-one, slice_get}
+use Rattle.std.proofs.Common.{◌≡◌, ℕ, zero, suc, ◌+◌, ◌<◌, List, [], ◌∷◌, length, get_or, take, drop, Some, refl, ap, arith, add-one, slice_get}
 use Rattle.std.specs.List.{AllByRecursion}
 
 some_is : {A : Type 0} {x y : A} → Some x ≡ Some y → x ≡ y

@@ -1,11 +1,10 @@
 -- Groups that are changed one after another.
-use Rattle.std.proofs.Common.{◌≡◌, ℕ, zero, suc, ◌+◌, ◌<◌, ◌≤◌, List, [], ◌∷◌, length, Option, Some, None, refl, ap, sym, ◌∙◌, subst, arith, slice_get, add-one}
+use Rattle.std.proofs.Common.{◌≡◌, ℕ, zero, suc, List, [], ◌∷◌, length, Some, refl, ap, arith, slice_get}
 use Rattle.indexmap.specs.IndexMap.{set_value_at}
 use Rattle.venue_words.specs.declared.row.Key.{Key}
 use Rattle.peg_groups.specs.Groups.{EachGroup, EachUpTo, PairedBy, PairedUpTo}
 use Rattle.peg_groups.specs.declared.group.Group.{Group}
 use Rattle.peg_groups.proofs.GroupSteps.{there}
-use Rattle.peg_groups.proofs.Scan.{each_more}
 
 pub paired_at : (R : Key → Group → Group → Type 0) (n : ℕ) (olds news : List (Key × Group)) → PairedUpTo R n olds news → slice_get news n ≡ slice_get olds n
 paired_at R zero olds news p = ap (λ (es : List (Key × Group)). slice_get es zero) p

@@ -1,12 +1,11 @@
 -- The row of a pair in a group.
-use Rattle.std.proofs.Common.{◌≡◌, ◌≢◌, ◌⊎◌, ℕ, zero, suc, ◌<◌, ◌≤◌, Bool, true, false, cond, eqb, ◌&&◌, ◌||◌, List, [], ◌∷◌, length, Option, Some, None, refl, ap, sym, ◌∙◌, subst, arith, inl, inr, slice_get}
-use Rattle.std.proofs.lemmas.Bool.{ne_eqb, eq-eqb, cases_eq, and_parts, eqb-true}
+use Rattle.std.proofs.Common.{◌≡◌, ℕ, zero, suc, Bool, true, false, cond, eqb, ◌&&◌, ◌||◌, List, [], ◌∷◌, Some, None, refl, ap, sym, subst, slice_get}
+use Rattle.std.proofs.lemmas.Bool.{eq-eqb, and_parts, eqb-true}
 use Rattle.indexmap.specs.IndexMap.{set_value_at}
 use Rattle.venue_words.specs.declared.row.Key.{Key}
 use Rattle.venue_words.specs.declared.row.Row.{Row}
 use Rattle.std.specs.List.{AllByRecursion}
 use Rattle.limit_tree.specs.Order.{row_at, is_held, without_row}
-use Rattle.peg_groups.specs.Groups.{with_rows}
 use Rattle.peg_groups.specs.declared.group.Group.{Group}
 use Rattle.peg_groups.proofs.GroupSteps.{there}
 

@@ -1,6 +1,6 @@
 -- A side of groups after a quote, after a reservation and after it was tidied.
-use Rattle.std.proofs.Common.{Ok, Err, ◌≡◌, ◌≢◌, ◌⊎◌, ℕ, zero, suc, ◌+◌, ◌*◌, ◌<◌, ◌≤◌, min, max, not, Bool, true, false, cond, ltb, eqb, List, [], ◌∷◌, ◌++◌, map, filter, length, Option, Some, None, refl, ap, sym, ◌∙◌, subst, arith, inl, inr, slice_get}
-use Rattle.std.proofs.lemmas.Bool.{ne_eqb, eq-eqb, eqb-true, eqb-false, cases_eq}
+use Rattle.std.proofs.Common.{Ok, Err, ◌≡◌, ◌⊎◌, ℕ, zero, suc, ◌+◌, ◌<◌, ◌≤◌, min, max, not, Bool, true, false, cond, eqb, List, [], ◌∷◌, ◌++◌, map, filter, length, Option, Some, None, refl, ap, sym, ◌∙◌, subst, arith, inl, inr}
+use Rattle.std.proofs.lemmas.Bool.{ne_eqb, eq-eqb, eqb-true, cases_eq}
 use Rattle.venue_words.specs.Conditions.{IsKey}
 use Rattle.venue_words.specs.Peg.{row_value, peg_value, value_under}
 use Rattle.venue_words.specs.Retime.{retime, reprice}
@@ -14,14 +14,14 @@ use Rattle.std.specs.Prelude.{nat_eq}
 use Rattle.venue_words.specs.ListLaws.{all_both}
 use Rattle.limit_tree.specs.Order.{is_empty}
 use Rattle.move_history.specs.Staircase.{Staircase, last_change}
-use Rattle.peg_groups.specs.Side.{SideState, Standing, IsLaterThan}
+use Rattle.peg_groups.specs.Side.{Standing, IsLaterThan}
 use Rattle.venue_words.specs.Rows.{IsAbsent, insert_by_entry}
-use Rattle.peg_groups.specs.Group.{priced_in, time_in, value_from, value_number}
-use Rattle.peg_groups.specs.Groups.{merged, rows_of, EachGroup, AreApart, IsRowOf, IsGroup, AreGroups, IsGroupSide, GroupsView, groups_state, HasMoves, HasGroup, HaveRoom, FitsGroup, KeepsMoves, IsMoved, IsRoomier, PairedBy, IsFresh, HasNew, ReservesGroups, is_used}
+use Rattle.peg_groups.specs.Group.{priced_in, value_from}
+use Rattle.peg_groups.specs.Groups.{merged, rows_of, EachGroup, IsRowOf, IsGroup, AreGroups, IsGroupSide, GroupsView, groups_state, HasMoves, HasGroup, HaveRoom, FitsGroup, IsMoved, IsRoomier, PairedBy, IsFresh, HasNew, ReservesGroups, is_used}
 use Rattle.peg_groups.specs.declared.group.Group.{Group}
 use Rattle.peg_groups.specs.Merge.{map-insert}
 use Rattle.peg_groups.proofs.Merged.{each_merged, merged_each, apart_kept}
-use Rattle.peg_groups.proofs.GroupSteps.{groups_map, fits_kept}
+use Rattle.peg_groups.proofs.GroupSteps.{fits_kept}
 use Rattle.peg_groups.proofs.SideSteps.{entries_before}
 use Rattle.peg_groups.proofs.Positive.{peg_number}
 

@@ -1,26 +1,26 @@
 -- A side of groups when a row enters or leaves it.
-use Rattle.std.proofs.Common.{◌≡◌, ◌≢◌, ◌⊎◌, ℕ, zero, suc, ◌<◌, ◌≤◌, min, max, Bool, true, false, cond, ltb, eqb, List, [], ◌∷◌, length, Option, Some, None, refl, ap, sym, ◌∙◌, subst, arith, inl, inr, slice_get, ◌^◌}
-use Rattle.std.proofs.lemmas.Bool.{ne_eqb, eq-eqb}
+use Rattle.std.proofs.Common.{◌≡◌, ℕ, zero, suc, ◌<◌, ◌≤◌, min, max, false, List, [], ◌∷◌, length, Option, Some, None, refl, ap, sym, ◌∙◌, subst, arith, inl, inr, slice_get, ◌^◌}
+use Rattle.std.proofs.lemmas.Bool.{ne_eqb}
 use Rattle.indexmap.specs.IndexMap.{set_value_at}
 use Rattle.venue_words.specs.Peg.{row_value, peg_value, value_under}
-use Rattle.peg_groups.specs.Side.{entered, SideState, Standing, IsLaterThan, IsPlaced, IsHeldAt, NoneAt, IsCut, standing_of, without}
-use Rattle.venue_words.specs.Priority.{before, is_ahead_if_active}
+use Rattle.peg_groups.specs.Side.{entered, IsLaterThan, IsPlaced, IsHeldAt, NoneAt, standing_of}
+use Rattle.venue_words.specs.Priority.{is_ahead_if_active}
 use Rattle.venue_words.specs.declared.price.Best.{Best}
 use Rattle.venue_words.specs.declared.row.Key.{Key}
 use Rattle.venue_words.specs.declared.row.Row.{Row}
 use Rattle.venue_words.specs.declared.row.Priced.{Priced}
 use Rattle.std.specs.List.{AllByRecursion}
 use Rattle.venue_words.specs.ListLaws.{all_both, all_weaken}
-use Rattle.limit_tree.specs.Order.{insert_row, without_row, row_at, is_held}
+use Rattle.limit_tree.specs.Order.{row_at}
 use Rattle.move_history.specs.Staircase.{Staircase, last_change}
-use Rattle.venue_words.specs.Rows.{IsByEntry, IsAbsent, insert_by_entry, row_by_entry, without_entry}
+use Rattle.venue_words.specs.Rows.{IsAbsent, insert_by_entry, row_by_entry, without_entry}
 use Rattle.venue_words.specs.FirstRow.{IsFirst, NoneActive}
 use Rattle.peg_groups.specs.Group.{priced_in, time_in, value_from}
-use Rattle.peg_groups.specs.Groups.{merged, rows_of, EachGroup, IsRowOf, IsGroup, AreGroups, IsGroupSide, GroupsView, groups_state, HasMoves, HasGroup, HaveRoom, FitsGroup, KeepsMoves, with_rows, NoneIn, EntersGroup, LeavesGroup, PricesRow, TakesFirst, NoneBefore, NoneActiveIn}
+use Rattle.peg_groups.specs.Groups.{rows_of, EachGroup, IsRowOf, IsGroup, AreGroups, IsGroupSide, GroupsView, groups_state, HasMoves, FitsGroup, KeepsMoves, with_rows, NoneIn, EntersGroup, LeavesGroup, PricesRow, TakesFirst, NoneBefore, NoneActiveIn}
 use Rattle.peg_groups.specs.declared.group.Group.{Group}
 use Rattle.peg_groups.specs.declared.group.Candidate.{Candidate}
-use Rattle.peg_groups.proofs.Merged.{each_merged, merged_each}
-use Rattle.peg_groups.proofs.GroupSteps.{there, each_set, groups_map, group_in, by_entry_groups, rows_put, groups_put, rows_cut, groups_cut, row_of_cut, has_set, has_found, only_moves, fits_kept, has_none}
+use Rattle.peg_groups.proofs.Merged.{each_merged}
+use Rattle.peg_groups.proofs.GroupSteps.{there, each_set, groups_map, group_in, rows_put, groups_put, rows_cut, groups_cut, row_of_cut, has_set, has_found, only_moves, fits_kept}
 use Rattle.peg_groups.proofs.Pairs.{held_of, held_row, row_at_is, row_at_all, no_row_at}
 use Rattle.peg_groups.proofs.Positive.{peg_number}
 

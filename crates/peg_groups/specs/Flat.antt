@@ -1,5 +1,5 @@
 -- A side as a flat list of places, of which some are free until the side is tidied.
-use Rattle.std.specs.Prelude.{◌≡◌, ℕ, ◌+◌, ◌<◌, ◌≤◌, Option, Some, None, List, [], ◌∷◌, length, take, Bool, true, false, not, ◌&&◌, is_some, if◌then◌else◌, MatchOption, slice_get, slice_set, nat_eq}
+use Rattle.std.specs.Prelude.{◌≡◌, ℕ, ◌≤◌, Option, Some, None, List, [], ◌∷◌, length, take, Bool, true, false, is_some, if◌then◌else◌, MatchOption, slice_get, slice_set, nat_eq}
 use Rattle.std.specs.List.{AllByRecursion}
 use Rattle.std.specs.Option.{option_eq}
 use Rattle.std.specs.declared.alloc.Global.{Global}

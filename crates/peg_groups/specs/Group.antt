@@ -1,5 +1,5 @@
 -- The rows of one peg group, priced by the group's moves.
-use Rattle.std.specs.Prelude.{◌≡◌, ℕ, ◌<◌, ◌≤◌, max, List, [], ◌∷◌, map, Option, Some, None, ◌==◌, if◌then◌else◌, true, false, min}
+use Rattle.std.specs.Prelude.{◌≡◌, ℕ, ◌≤◌, max, List, Option, Some, None, ◌==◌, if◌then◌else◌, true, false, min}
 use Rattle.venue_words.specs.Peg.{row_value}
 use Rattle.venue_words.specs.Priority.{is_ahead}
 use Rattle.venue_words.specs.declared.row.Priced.{Priced}

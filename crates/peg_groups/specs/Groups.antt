@@ -1,5 +1,5 @@
 -- A side as groups of rows by key.
-use Rattle.std.specs.Prelude.{◌≡◌, ◌⊎◌, ℕ, zero, suc, ◌+◌, ◌^◌, ◌<◌, ◌≤◌, ◌==◌, min, Bool, true, false, not, Option, Some, None, List, [], ◌∷◌, ◌++◌, length, if◌then◌else◌, slice_get, MatchOption, filter}
+use Rattle.std.specs.Prelude.{◌≡◌, ◌⊎◌, ℕ, zero, suc, ◌^◌, ◌<◌, ◌≤◌, ◌==◌, min, Bool, true, false, not, Option, Some, None, List, [], ◌∷◌, ◌++◌, length, if◌then◌else◌, slice_get, MatchOption}
 use Rattle.venue_words.specs.Conditions.{IsKey}
 use Rattle.venue_words.specs.Priority.{is_ahead_if_active}
 use Rattle.venue_words.specs.declared.row.Priced.{Priced}

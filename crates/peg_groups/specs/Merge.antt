@@ -1,5 +1,5 @@
 -- Rows put in order of entry.
-use Rattle.std.proofs.Common.{◌≡◌, ◌≢◌, ◌⊎◌, ℕ, ◌<◌, ◌≤◌, Bool, true, false, cond, ltb, eqb, List, [], ◌∷◌, map, Option, Some, None, refl, ap, sym, ◌∙◌, subst, arith, inl, inr}
+use Rattle.std.proofs.Common.{◌≡◌, ◌⊎◌, ℕ, ◌<◌, ◌≤◌, true, false, cond, ltb, eqb, List, [], ◌∷◌, map, Option, Some, refl, ap, sym, arith, inl, inr}
 use Rattle.std.proofs.lemmas.Bool.{lt-ltb, le-ltb, ne_eqb, eq-eqb, cases_eq, cases_order}
 use Rattle.venue_words.specs.declared.row.Priced.{Priced}
 use Rattle.std.specs.List.{AllByRecursion}

@@ -39,7 +39,8 @@ pub fn better(
     best: Option<(usize, Candidate)>,
 ) -> Option<(usize, Candidate)>
     requires best { BestUpTo groups.now.entries i best }
-    requires new { (key : Key) × (group : Group) × (slice_get groups.now.entries i ≡ Some (key, group)) × BestIn group new }
+    requires new { (key : Key) × (group : Group) × (slice_get groups.now.entries i ≡ Some (key, group))
+        × BestIn group new }
     ensures { BestUpTo groups.now.entries (i + 1) result }
 {
     match new {
@@ -130,7 +131,9 @@ pub fn take_first<L: Ledger>(
     steps: &mut Steps<L>,
 ) -> Option<Taken>
     ensures none { IsNone result → EachGroup NoneActiveIn groups.old.entries × (groups.new.entries ≡ groups.old.entries) }
-    ensures first { IfSome result (λ taken. (best : Candidate) × TakesFirst taken.node.value.row best groups.old.entries groups.new.entries × (taken.value ≡ Some best.value) × (taken.time ≡ best.time)) }
+    ensures first { IfSome result (λ taken. (best : Candidate)
+        × TakesFirst taken.node.value.row best groups.old.entries groups.new.entries
+        × (taken.value ≡ Some best.value) × (taken.time ≡ best.time)) }
     ensures alone { IfSome result (λ taken. IsLeaf taken.node.value) }
     ensures ticks { steps.old ≤ steps.new }
     ensures most { steps.new ≤ steps.old + 897 * length groups.old.entries + 256 }

@@ -45,7 +45,8 @@ impl Place {
 
     /// Whether it keeps the place, value and time of a row.
     pub fn keeps(&self, row: Row, value: Option<u32>, time: u32) -> bool
-        ensures { IsTrue result ↔ (place_standing self.now ≡ standing_of (record { row = row; value = value; time = time })) }
+        ensures { IsTrue result ↔ (place_standing self.now ≡ standing_of
+            (record { row = row; value = value; time = time })) }
     {
         if self.cap != row.cap
             || self.entry != row.entry
@@ -93,7 +94,8 @@ pub fn place_at(places: &[Place], i: usize) -> &Place
 
 /// The number of the place that has a row of this key, cap and entry.
 pub fn find(places: &[Place], key: Key, cap: u32, entry: u32) -> Option<usize>
-    ensures found { MatchOption result (AllByRecursion (λ place. IsThere key cap entry place → ⊥) places.now) (λ i. (place : Place) × (slice_get places.now i ≡ Some place) × IsThere key cap entry place) }
+    ensures found { MatchOption result (AllByRecursion (λ place. IsThere key cap entry place → ⊥) places.now)
+        (λ i. (place : Place) × (slice_get places.now i ≡ Some place) × IsThere key cap entry place) }
     ensures within { IfSome result (λ i. i < length places.now) }
 {
     for i in 0..places.len() {
@@ -106,7 +108,10 @@ pub fn find(places: &[Place], key: Key, cap: u32, entry: u32) -> Option<usize>
 
 /// The number of a place that keeps the place, value and time of a row.
 pub fn find_kept(places: &[Place], row: Row, value: Option<u32>, time: u32) -> Option<usize>
-    ensures found { MatchOption result (AllByRecursion (λ place. place_standing place ≡ standing_of (record { row = row; value = value; time = time }) → ⊥) places.now) (λ i. (place : Place) × (slice_get places.now i ≡ Some place) × (place_standing place ≡ standing_of (record { row = row; value = value; time = time }))) }
+    ensures found { MatchOption result (AllByRecursion (λ place. place_standing place ≡ standing_of
+        (record { row = row; value = value; time = time }) → ⊥) places.now) (λ i. (place : Place)
+        × (slice_get places.now i ≡ Some place) × (place_standing place ≡ standing_of
+        (record { row = row; value = value; time = time }))) }
     ensures within { IfSome result (λ i. i < length places.now) }
 {
     for i in 0..places.len() {
@@ -119,7 +124,8 @@ pub fn find_kept(places: &[Place], row: Row, value: Option<u32>, time: u32) -> O
 
 fn take_in(places: &mut [Place], i: usize) -> Option<Box<Node>>
     requires within { i < length places.old }
-    ensures { (place : Place) × (slice_get places.old i ≡ Some place) × (result ≡ place.node) × (places.new ≡ slice_set places.old i (without_node place)) }
+    ensures { (place : Place) × (slice_get places.old i ≡ Some place) × (result ≡ place.node)
+        × (places.new ≡ slice_set places.old i (without_node place)) }
 {
     places[i].node.take()
 }
@@ -127,7 +133,8 @@ fn take_in(places: &mut [Place], i: usize) -> Option<Box<Node>>
 /// Takes the node of a place out.
 pub fn take_at(places: &mut Vec<Place>, i: usize) -> Option<Box<Node>>
     requires within { i < length places.old.items }
-    ensures taken { (place : Place) × (slice_get places.old.items i ≡ Some place) × (result ≡ place.node) × (places.new.items ≡ slice_set places.old.items i (without_node place)) }
+    ensures taken { (place : Place) × (slice_get places.old.items i ≡ Some place) × (result ≡ place.node)
+        × (places.new.items ≡ slice_set places.old.items i (without_node place)) }
     ensures len { vec_len places.new ≡ vec_len places.old }
     ensures capacity { vec_capacity places.new ≡ vec_capacity places.old }
 {
@@ -136,7 +143,8 @@ pub fn take_at(places: &mut Vec<Place>, i: usize) -> Option<Box<Node>>
 
 fn fill_in(places: &mut [Place], i: usize, node: Box<Node>)
     requires within { i < length places.old }
-    ensures { (place : Place) × (slice_get places.old i ≡ Some place) × (places.new ≡ slice_set places.old i (with_node node place)) }
+    ensures { (place : Place) × (slice_get places.old i ≡ Some place)
+        × (places.new ≡ slice_set places.old i (with_node node place)) }
 {
     places[i].node = Some(node);
 }
@@ -144,7 +152,8 @@ fn fill_in(places: &mut [Place], i: usize, node: Box<Node>)
 /// Puts a node into a place.
 pub fn fill_at(places: &mut Vec<Place>, i: usize, node: Box<Node>)
     requires within { i < length places.old.items }
-    ensures filled { (place : Place) × (slice_get places.old.items i ≡ Some place) × (places.new.items ≡ slice_set places.old.items i (with_node node place)) }
+    ensures filled { (place : Place) × (slice_get places.old.items i ≡ Some place)
+        × (places.new.items ≡ slice_set places.old.items i (with_node node place)) }
     ensures len { vec_len places.new ≡ vec_len places.old }
     ensures capacity { vec_capacity places.new ≡ vec_capacity places.old }
 {

@@ -13,7 +13,9 @@ use venue_words::{Key, Steps};
 
 /// Takes the row of a key, a cap and an entry out of its place.
 pub fn cut_place(places: &mut Vec<Place>, key: Key, cap: u32, entry: u32) -> Option<Box<Node>>
-    ensures cut { MatchOption result (AllByRecursion (λ place. IsThere key cap entry place → ⊥) places.old.items × (places.new.items ≡ places.old.items)) (λ node. TakesOut key cap entry node places.old.items places.new.items) }
+    ensures cut { MatchOption result (AllByRecursion (λ place. IsThere key cap entry place → ⊥) places.old.items
+        × (places.new.items ≡ places.old.items))
+        (λ node. TakesOut key cap entry node places.old.items places.new.items) }
     ensures len { vec_len places.new ≡ vec_len places.old }
     ensures capacity { vec_capacity places.new ≡ vec_capacity places.old }
 {
@@ -79,7 +81,10 @@ fn best_place<L: Ledger>(places: &[Place], steps: &mut Steps<L>) -> Option<usize
 /// Takes the row of a place out, with its value and time.
 fn take_from(places: &mut Vec<Place>, i: usize) -> Option<Taken>
     requires within { i < length places.old.items }
-    ensures taken { (place : Place) × (slice_get places.old.items i ≡ Some place) × MatchOption result (place.node ≡ None) (λ taken. (place.node ≡ Some taken.node) × (taken.value ≡ place.value) × (taken.time ≡ place.time)) × (places.new.items ≡ slice_set places.old.items i (without_node place)) }
+    ensures taken { (place : Place) × (slice_get places.old.items i ≡ Some place)
+        × MatchOption result (place.node ≡ None) (λ taken. (place.node ≡ Some taken.node)
+        × (taken.value ≡ place.value) × (taken.time ≡ place.time))
+        × (places.new.items ≡ slice_set places.old.items i (without_node place)) }
     ensures len { vec_len places.new ≡ vec_len places.old }
     ensures capacity { vec_capacity places.new ≡ vec_capacity places.old }
 {
@@ -94,7 +99,8 @@ fn take_from(places: &mut Vec<Place>, i: usize) -> Option<Taken>
 
 /// Takes the first active row by priority out of its place.
 pub fn take_first<L: Ledger>(places: &mut Vec<Place>, steps: &mut Steps<L>) -> Option<Taken>
-    ensures none { IsNone result → AllByRecursion (λ place. place_value place ≡ None) places.old.items × (places.new.items ≡ places.old.items) }
+    ensures none { IsNone result → AllByRecursion (λ place. place_value place ≡ None) places.old.items
+        × (places.new.items ≡ places.old.items) }
     ensures first { IfSome result (TakesBest places.old.items places.new.items) }
     ensures len { vec_len places.new ≡ vec_len places.old }
     ensures capacity { vec_capacity places.new ≡ vec_capacity places.old }

@@ -19,7 +19,8 @@ use std::marker::Model;
 use std::sync::ledger::Ledger;
 use venue_words::{Best, Key, NoMemory, Row, Steps};
 
-/// A side that keeps each row with its value and time.
+/// A side that keeps each row with its value and time in a place of a plain list. A row that is out keeps its place
+/// until `tidy`. Its width is the number of places, with those that `reserve` made; its visits are the number of rows.
 #[derive(Drop)]
 pub struct FlatSide {
     places: Vec<Place>,
@@ -80,7 +81,8 @@ fn count_rows(places: &[Place]) -> usize
 /// Whether the row of a place is there, and none behind it has its key.
 fn is_last_of_key(places: &[Place], i: usize) -> bool
     requires within { i < length places.now }
-    ensures { (place : Place) × (slice_get places.now i ≡ Some place) × (result ≡ (is_filled place && not (list_any (λ other. is_filled other && same_key place.key other.key) (drop (i + 1) places.now)))) }
+    ensures { (place : Place) × (slice_get places.now i ≡ Some place) × (result ≡ (is_filled place && not (list_any
+        (λ other. is_filled other && same_key place.key other.key) (drop (i + 1) places.now)))) }
 {
     let place = place_at(places, i);
     if place.node.is_none() {
@@ -136,7 +138,9 @@ fn put_in_place(places: &mut Vec<Place>, taken: Taken)
 
 /// The value and the time of the row of a key, a cap and an entry.
 fn price_of_row(places: &[Place], key: Key, cap: u32, entry: u32) -> Option<(Option<u32>, u32)>
-    ensures found { MatchOption result (AllByRecursion (λ place. IsThere key cap entry place → ⊥) places.now) (λ pair. (i : ℕ) × (place : Place) × (slice_get places.now i ≡ Some place) × IsThere key cap entry place × (place.value ≡ pair.0) × (place.time ≡ pair.1)) }
+    ensures found { MatchOption result (AllByRecursion (λ place. IsThere key cap entry place → ⊥) places.now)
+        (λ pair. (i : ℕ) × (place : Place) × (slice_get places.now i ≡ Some place) × IsThere key cap entry place
+        × (place.value ≡ pair.0) × (place.time ≡ pair.1)) }
 {
     match find(places, key, cap, entry) {
         None => None,

@@ -37,7 +37,8 @@ pub fn price_pair<L: Ledger>(
     ensures value { result.value ≡ value }
     ensures pair { (result.cap ≡ pair.0) × (result.entry ≡ pair.1) }
     ensures time { result.time ≡ time_in moves.now pair.0 pair.1 }
-    ensures same_above { (other : ℕ) → moves.now.current < pair.0 → moves.now.current < other → last_change moves.now other ≡ last_change moves.now pair.0 }
+    ensures same_above { (other : ℕ) → moves.now.current < pair.0 → moves.now.current < other
+        → last_change moves.now other ≡ last_change moves.now pair.0 }
     ensures ticks { steps.old + 1 ≤ steps.new }
     ensures most { steps.new ≤ steps.old + 64 }
 {
@@ -73,7 +74,8 @@ pub fn best_of_group<L: Ledger>(
 ) -> Option<Candidate>
     requires present { value ≡ moves.now.current }
     requires active { 0 < value }
-    ensures found { MatchOption result (tree.now ≡ []) (λ best. IsGroupBest moves.now tree.now best.value best.time best.cap best.entry) }
+    ensures found { MatchOption result (tree.now ≡ [])
+        (λ best. IsGroupBest moves.now tree.now best.value best.time best.cap best.entry) }
     ensures ticks { steps.old + 1 ≤ steps.new }
     ensures most { steps.new ≤ steps.old + 896 }
 {
@@ -103,7 +105,10 @@ pub fn price_in<L: Ledger>(
     entry: u32,
     steps: &mut Steps<L>,
 ) -> Option<(Option<u32>, u32)>
-    ensures found { MatchOption result (is_held cap entry group.now.tree ≡ false) (λ pair. (is_held cap entry group.now.tree ≡ true) × (pair.0 ≡ row_value (value_from group.now.moves.current) cap) × (pair.1 ≡ time_in group.now.moves cap entry)) }
+    ensures found { MatchOption result (is_held cap entry group.now.tree ≡ false)
+        (λ pair. (is_held cap entry group.now.tree ≡ true)
+        × (pair.0 ≡ row_value (value_from group.now.moves.current) cap)
+        × (pair.1 ≡ time_in group.now.moves cap entry)) }
     ensures ticks { steps.old + 1 ≤ steps.new }
     ensures most { steps.new ≤ steps.old + 320 }
 {

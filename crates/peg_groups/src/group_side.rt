@@ -18,7 +18,9 @@ use std::marker::Model;
 use std::sync::ledger::Ledger;
 use venue_words::{Best, Key, NoMemory, Row, Steps};
 
-/// A side that keeps its rows in groups by key, and neither value nor time of a row.
+/// A side that keeps its rows in groups by key, and neither value nor time of a row: a group has the moves of its
+/// key's value, and both follow from them. A pricing visits each group once and no row. Its width and its visits are
+/// the number of groups, with those that `reserve` made and that have no row yet.
 #[derive(Drop)]
 pub struct GroupSide {
     groups: IndexMap<Key, Group>,

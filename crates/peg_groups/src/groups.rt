@@ -18,7 +18,8 @@ use venue_words::{Key, Steps};
 
 /// The number of the group of a key.
 pub fn group_of(groups: &IndexMap<Key, Group>, key: Key) -> Option<usize>
-    ensures found { MatchOption result (EachGroup (λ k _. k ≡ key → ⊥) groups.now.entries) (λ i. (group : Group) × (slice_get groups.now.entries i ≡ Some (key, group))) }
+    ensures found { MatchOption result (EachGroup (λ k _. k ≡ key → ⊥) groups.now.entries) (λ i. (group : Group)
+        × (slice_get groups.now.entries i ≡ Some (key, group))) }
     ensures within { IfSome result (λ i. i < index_map_len groups.now) }
 {
     match groups.get_index_of(&key) {
@@ -36,8 +37,10 @@ pub fn put_into<L: Ledger>(
 )
     requires within { i < index_map_len groups.old }
     requires alone { IsLeaf node.value }
-    requires free { (key : Key) → (group : Group) → slice_get groups.old.entries i ≡ Some (key, group) → is_held node.value.row.cap node.value.row.entry group.tree ≡ false }
-    ensures entries { (key : Key) → (group : Group) → slice_get groups.old.entries i ≡ Some (key, group) → groups.new.entries ≡ set_value_at groups.old.entries i (with_rows group (insert_row node.value.row group.tree)) }
+    requires free { (key : Key) → (group : Group) → slice_get groups.old.entries i ≡ Some (key, group)
+        → is_held node.value.row.cap node.value.row.entry group.tree ≡ false }
+    ensures entries { (key : Key) → (group : Group) → slice_get groups.old.entries i ≡ Some (key, group)
+        → groups.new.entries ≡ set_value_at groups.old.entries i (with_rows group (insert_row node.value.row group.tree)) }
     ensures ticks { steps.old + 1 ≤ steps.new }
     ensures most { steps.new ≤ steps.old + 256 }
 {
@@ -54,7 +57,10 @@ pub fn cut_in<L: Ledger>(
     steps: &mut Steps<L>,
 ) -> Option<Box<Node>>
     requires within { i < index_map_len groups.old }
-    ensures cut { (key : Key) × (group : Group) × (slice_get groups.old.entries i ≡ Some (key, group)) × MatchOption result ((row_at cap entry group.tree ≡ None) × (groups.new.entries ≡ groups.old.entries)) (λ node. (row_at cap entry group.tree ≡ Some node.value.row) × (groups.new.entries ≡ set_value_at groups.old.entries i (with_rows group (without_row cap entry group.tree)))) }
+    ensures cut { (key : Key) × (group : Group) × (slice_get groups.old.entries i ≡ Some (key, group))
+        × MatchOption result ((row_at cap entry group.tree ≡ None) × (groups.new.entries ≡ groups.old.entries))
+        (λ node. (row_at cap entry group.tree ≡ Some node.value.row)
+        × (groups.new.entries ≡ set_value_at groups.old.entries i (with_rows group (without_row cap entry group.tree)))) }
     ensures alone { IfSome result (λ node. IsLeaf node.value) }
     ensures ticks { steps.old + 1 ≤ steps.new }
     ensures most { steps.new ≤ steps.old + 256 }
@@ -80,7 +86,9 @@ pub fn price_at<L: Ledger>(
     steps: &mut Steps<L>,
 ) -> Option<(Option<u32>, u32)>
     requires within { i < index_map_len groups.now }
-    ensures found { (key : Key) × (group : Group) × (slice_get groups.now.entries i ≡ Some (key, group)) × MatchOption result (is_held cap entry group.tree ≡ false) (λ pair. (is_held cap entry group.tree ≡ true) × (pair.0 ≡ row_value (value_from group.moves.current) cap) × (pair.1 ≡ time_in group.moves cap entry)) }
+    ensures found { (key : Key) × (group : Group) × (slice_get groups.now.entries i ≡ Some (key, group))
+        × MatchOption result (is_held cap entry group.tree ≡ false) (λ pair. (is_held cap entry group.tree ≡ true)
+        × (pair.0 ≡ row_value (value_from group.moves.current) cap) × (pair.1 ≡ time_in group.moves cap entry)) }
     ensures ticks { steps.old + 1 ≤ steps.new }
     ensures most { steps.new ≤ steps.old + 320 }
 {
@@ -115,7 +123,9 @@ pub fn leave<L: Ledger>(
     entry: u32,
     steps: &mut Steps<L>,
 ) -> Option<Box<Node>>
-    ensures left { MatchOption result (NoneIn key cap entry groups.old.entries × (groups.new.entries ≡ groups.old.entries)) (λ node. LeavesGroup key cap entry node.value.row groups.old.entries groups.new.entries) }
+    ensures left { MatchOption result (NoneIn key cap entry groups.old.entries
+        × (groups.new.entries ≡ groups.old.entries))
+        (λ node. LeavesGroup key cap entry node.value.row groups.old.entries groups.new.entries) }
     ensures alone { IfSome result (λ node. IsLeaf node.value) }
     ensures ticks { steps.old ≤ steps.new }
     ensures most { steps.new ≤ steps.old + 256 }
@@ -134,7 +144,8 @@ pub fn look_up<L: Ledger>(
     entry: u32,
     steps: &mut Steps<L>,
 ) -> Option<(Option<u32>, u32)>
-    ensures found { MatchOption result (NoneIn key cap entry groups.now.entries) (λ pair. PricesRow key cap entry groups.now.entries pair.0 pair.1) }
+    ensures found { MatchOption result (NoneIn key cap entry groups.now.entries)
+        (λ pair. PricesRow key cap entry groups.now.entries pair.0 pair.1) }
     ensures ticks { steps.old ≤ steps.new }
     ensures most { steps.new ≤ steps.old + 320 }
 {

@@ -32,8 +32,10 @@ pub fn reprice_at<L: Ledger>(
     steps: &mut Steps<L>,
 )
     requires within { i < index_map_len groups.old }
-    requires room { (key : Key) → (group : Group) → slice_get groups.old.entries i ≡ Some (key, group) → IsKey key × (0 < group.moves.room) × (group.moves.latest < event) }
-    ensures moved { (key : Key) × (old : Group) × (new : Group) × (slice_get groups.old.entries i ≡ Some (key, old)) × (groups.new.entries ≡ set_value_at groups.old.entries i new) × IsMoved event best key old new }
+    requires room { (key : Key) → (group : Group) → slice_get groups.old.entries i ≡ Some (key, group) → IsKey key
+        × (0 < group.moves.room) × (group.moves.latest < event) }
+    ensures moved { (key : Key) × (old : Group) × (new : Group) × (slice_get groups.old.entries i ≡ Some (key, old))
+        × (groups.new.entries ≡ set_value_at groups.old.entries i new) × IsMoved event best key old new }
     ensures ticks { steps.old + 1 ≤ steps.new }
     ensures most { steps.new ≤ steps.old + 65 }
 {
@@ -50,7 +52,8 @@ pub fn reprice_groups<L: Ledger>(
     best: Best,
     steps: &mut Steps<L>,
 )
-    requires room { EachGroup (λ key group. IsKey key × (0 < group.moves.room) × (group.moves.latest < event)) groups.old.entries }
+    requires room { EachGroup (λ key group. IsKey key × (0 < group.moves.room)
+        × (group.moves.latest < event)) groups.old.entries }
     ensures moved { PairedBy (IsMoved event best) groups.old.entries groups.new.entries }
     ensures ticks { steps.old + length groups.old.entries ≤ steps.new }
     ensures most { steps.new ≤ steps.old + 65 * length groups.old.entries }

@@ -21,7 +21,9 @@ use venue_words::{Best, Key, NoMemory, Steps};
 /// Makes room for a move in the group with a number.
 pub fn reserve_at(groups: &mut IndexMap<Key, Group>, i: usize) -> Result<(), NoMemory>
     requires within { i < index_map_len groups.old }
-    ensures grown { (key : Key) × (old : Group) × (new : Group) × (slice_get groups.old.entries i ≡ Some (key, old)) × (groups.new.entries ≡ set_value_at groups.old.entries i new) × IsRoomier old new × OnOk result (0 < new.moves.room) }
+    ensures grown { (key : Key) × (old : Group) × (new : Group) × (slice_get groups.old.entries i ≡ Some (key, old))
+        × (groups.new.entries ≡ set_value_at groups.old.entries i new) × IsRoomier old new
+        × OnOk result (0 < new.moves.room) }
 {
     let (_key, group) = groups.pair_mut(i);
     group.moves.reserve()

@@ -113,12 +113,14 @@ pub trait SideBook {
         steps: &mut Steps<L>,
     ) -> Option<Box<Node>>
         ensures by_entry { IsByEntry (state self.old).rows }
-        ensures found { MatchOption result (state self.new ≡ state self.old) (λ node. IsCut key cap entry (state self.old) (state self.new) node.value.row) }
+        ensures found { MatchOption result (state self.new ≡ state self.old)
+            (λ node. IsCut key cap entry (state self.old) (state self.new) node.value.row) }
         ensures none { IsNone result → NoneAt key cap entry (state self.old).rows }
         ensures alone { IfSome result (λ node. IsLeaf node.value) }
 
         // The row can be put back with the value and the time that it had.
-        ensures cut_fits { IfSome result (λ _. (row : Priced) → IsHeldAt key cap entry (state self.old).rows row → fits self.new (standing_of row)) }
+        ensures cut_fits { IfSome result (λ _. (row : Priced) → IsHeldAt key cap entry (state self.old).rows row
+            → fits self.new (standing_of row)) }
         ensures fits { (standing : Standing) → fits self.old standing → fits self.new standing }
         ensures rows { (key : Key) → row_room self.old key → row_room self.new key }
         ensures moves { move_room self.old → move_room self.new }
@@ -152,7 +154,8 @@ pub trait SideBook {
         entry: u32,
         steps: &mut Steps<L>,
     ) -> Option<(Option<u32>, u32)>
-        ensures found { MatchOption result (NoneAt key cap entry (state self.now).rows) (λ pair. (row : Priced) × IsHeldAt key cap entry (state self.now).rows row × (row.value ≡ pair.0) × (row.time ≡ pair.1)) }
+        ensures found { MatchOption result (NoneAt key cap entry (state self.now).rows) (λ pair. (row : Priced)
+            × IsHeldAt key cap entry (state self.now).rows row × (row.value ≡ pair.0) × (row.time ≡ pair.1)) }
         ensures ticks { steps.old + 1 ≤ steps.new }
         ensures most { steps.new ≤ steps.old + 512 };
 

@@ -1,5 +1,3 @@
-use Rattle.std.proofs.Common.{◌≡◌, ◌∷◌, ◌++◌}
-use Rattle.limit_tree.specs.Link.{link_rows}
 use Rattle.limit_tree.proofs.InOrder.{ordered_front, ordered_right, ordered_left}
 use Rattle.limit_tree.proofs.balance.lean_left.Goals as goal
 

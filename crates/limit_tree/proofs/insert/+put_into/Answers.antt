@@ -1,9 +1,8 @@
-use Rattle.std.proofs.Common.{◌≡◌, ◌<◌, ◌≤◌, ◌∷◌, ◌++◌, length, ap, sym, ◌∙◌, subst, arith, length-append}
+use Rattle.std.proofs.Common.{◌<◌, ◌≤◌, ap, sym, arith}
 use Rattle.std.proofs.lemmas.Bool.{ltb-true, ltb-false}
-use Rattle.venue_words.specs.declared.row.Row.{Row}
 use Rattle.limit_tree.specs.Link.{link_rows}
-use Rattle.limit_tree.specs.Order.{row_rank, IsOrdered, IsFree, insert_row}
-use Rattle.limit_tree.proofs.Inserting.{IsSplit, split_of, free_front, free_back, insert_to_left, insert_to_right, ordered_after}
+use Rattle.limit_tree.specs.Order.{row_rank}
+use Rattle.limit_tree.proofs.Inserting.{split_of, free_back, insert_to_left, insert_to_right, ordered_after}
 use Rattle.limit_tree.proofs.insert.+put_into.Goals as goal
 
 pub balance-requires-clause-ordered : goal.balance-requires-clause-ordered

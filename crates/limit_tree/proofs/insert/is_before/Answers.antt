@@ -1,5 +1,4 @@
-use Rattle.std.proofs.Common.{◌≡◌, ◌≢◌, ◌<◌, ◌^◌, ◌≤◌, ap, sym, arith}
-use Rattle.limit_tree.specs.Order.{row_rank}
+use Rattle.std.proofs.Common.{◌≡◌, ap, sym, arith}
 use Rattle.limit_tree.proofs.Inserting.{ltb-same, numbered_middle}
 use Rattle.limit_tree.proofs.insert.is_before.Goals as goal
 

@@ -1,8 +1,6 @@
-use Rattle.std.proofs.Common.{◌≡◌, ℕ, ◌+◌, ◌<◌, ◌≤◌, [], ◌∷◌, ◌++◌, length, min, max, ap, ◌∙◌, sym, subst, arith, length-append, lit<}
-use Rattle.venue_words.specs.declared.row.Row.{Row}
+use Rattle.std.proofs.Common.{◌≡◌, ◌+◌, ◌≤◌, ◌∷◌, ◌++◌, length, max, ap, ◌∙◌, arith, length-append}
 use Rattle.limit_tree.specs.Link.{link_rows, link_height}
-use Rattle.limit_tree.specs.Order.{IsOrdered, IsNumbered, least_entry}
-use Rattle.limit_tree.specs.Part.{DifferByAtMost, fewest}
+use Rattle.limit_tree.specs.Part.{fewest}
 use Rattle.limit_tree.proofs.Heights.{fewest-attach, height_small}
 use Rattle.limit_tree.proofs.LeastEntry.{least_entry-append}
 use Rattle.limit_tree.proofs.node.attach.Goals as goal

@@ -1,7 +1,6 @@
-use Rattle.std.proofs.Common.{◌≡◌, ◌<◌, ◌≤◌, ◌∷◌, ◌++◌, length, refl, ap, sym, ◌∙◌, arith, Some}
+use Rattle.std.proofs.Common.{ap, sym, ◌∙◌, Some}
 use Rattle.limit_tree.specs.Link.{link_rows}
-use Rattle.limit_tree.specs.Order.{row_rank, rank, IsAt, IsOrdered, without_row, row_at}
-use Rattle.limit_tree.proofs.Inserting.{IsSplit, split_of}
+use Rattle.limit_tree.proofs.Inserting.{split_of}
 use Rattle.limit_tree.proofs.Searching.{goes_left, goes_right, stays_here, ordered_cut}
 use Rattle.limit_tree.proofs.remove.+cut_from.Goals as goal
 

@@ -1,10 +1,9 @@
-use Rattle.std.proofs.Common.{◌≡◌, ◌≢◌, ◌<◌, ◌≤◌, ◌∷◌, ◌++◌, ℕ, length, refl, ap, sym, ◌∙◌, arith}
+use Rattle.std.proofs.Common.{◌≡◌, ◌≢◌, ◌<◌, ◌≤◌, refl, ap, sym, ◌∙◌, arith}
 use Rattle.venue_words.specs.ListLaws.{all_weaken}
 use Rattle.venue_words.specs.declared.row.Row.{Row}
 use Rattle.limit_tree.specs.Link.{link_rows}
-use Rattle.limit_tree.specs.Looks.{IsLeastWhere}
-use Rattle.limit_tree.proofs.Inserting.{IsSplit, split_of}
-use Rattle.limit_tree.proofs.Finding.{HasEntry, entry_behind, entry_before, entry_at_row, entry_found_before, entry_found_behind, entry_wanted_behind, entry_below_back, least_in_back, caps_before, caps_behind}
+use Rattle.limit_tree.proofs.Inserting.{split_of}
+use Rattle.limit_tree.proofs.Finding.{entry_behind, entry_before, entry_at_row, entry_found_before, entry_found_behind, entry_wanted_behind, entry_below_back, caps_before, caps_behind}
 use Rattle.limit_tree.proofs.search.+cap_above.Goals as goal
 
 pub cap_above-requires : goal.cap_above-requires

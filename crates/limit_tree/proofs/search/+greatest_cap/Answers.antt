@@ -1,6 +1,6 @@
-use Rattle.std.proofs.Common.{◌≡◌, ◌<◌, ◌≤◌, ◌∷◌, ◌++◌, length, refl, ap, sym, ◌∙◌, arith}
+use Rattle.std.proofs.Common.{refl, ap, sym, ◌∙◌, arith}
 use Rattle.limit_tree.specs.Link.{link_rows}
-use Rattle.limit_tree.proofs.Inserting.{IsSplit, split_of}
+use Rattle.limit_tree.proofs.Inserting.{split_of}
 use Rattle.limit_tree.proofs.Finding.{greatest_in_front, greatest_is_row, greatest_in_back}
 use Rattle.limit_tree.proofs.search.+greatest_cap.Goals as goal
 

@@ -1,6 +1,6 @@
-use Rattle.std.proofs.Common.{◌≡◌, ◌<◌, ◌≤◌, ◌∷◌, ◌++◌, length, refl, ap, sym, ◌∙◌, arith}
+use Rattle.std.proofs.Common.{refl, ap, sym, ◌∙◌}
 use Rattle.limit_tree.specs.Link.{link_rows}
-use Rattle.limit_tree.proofs.Inserting.{IsSplit, split_of}
+use Rattle.limit_tree.proofs.Inserting.{split_of}
 use Rattle.limit_tree.proofs.Searching.{goes_left, goes_right, stays_here}
 use Rattle.limit_tree.proofs.search.+is_in.Goals as goal
 

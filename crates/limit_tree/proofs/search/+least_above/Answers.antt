@@ -1,9 +1,9 @@
-use Rattle.std.proofs.Common.{◌≡◌, ◌<◌, ◌≤◌, ◌∷◌, ◌++◌, ℕ, min, length, refl, ap, sym, ◌∙◌, arith}
+use Rattle.std.proofs.Common.{◌≡◌, ◌<◌, ◌≤◌, ◌∷◌, min, refl, ap, sym, ◌∙◌, arith}
 use Rattle.venue_words.specs.declared.row.Row.{Row}
 use Rattle.venue_words.specs.ListLaws.{all_weaken}
 use Rattle.limit_tree.specs.Link.{link_rows}
 use Rattle.limit_tree.specs.Order.{least_entry}
-use Rattle.limit_tree.proofs.Inserting.{IsSplit, split_of}
+use Rattle.limit_tree.proofs.Inserting.{split_of}
 use Rattle.limit_tree.proofs.Finding.{entry_in_back, entry_from_here, entry_from_both, caps_before, caps_behind}
 use Rattle.limit_tree.proofs.search.+least_above.Goals as goal
 

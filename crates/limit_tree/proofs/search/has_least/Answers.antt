@@ -1,9 +1,7 @@
-use Rattle.std.proofs.Common.{◌≡◌, ◌≢◌, ◌<◌, ◌≤◌, ℕ, true, false, eqb, ◌∷◌, ◌++◌, refl, ap, sym, ◌∙◌, arith}
-use Rattle.std.specs.Bool.{MatchBool}
+use Rattle.std.proofs.Common.{refl, ap, sym, ◌∙◌}
 use Rattle.limit_tree.specs.Link.{link_rows}
-use Rattle.limit_tree.specs.Order.{is_held}
 use Rattle.limit_tree.proofs.Finding.{least_is_held}
-use Rattle.limit_tree.proofs.Inserting.{IsSplit, split_of}
+use Rattle.limit_tree.proofs.Inserting.{split_of}
 use Rattle.limit_tree.proofs.search.has_least.Goals as goal
 
 pub returns-in-Some : goal.returns-in-Some

@@ -1,6 +1,5 @@
-use Rattle.std.proofs.Common.{◌≡◌, ℕ, suc, ◌+◌, ◌<◌, ◌≤◌, length, ◌-◌, ◌*◌, ◌/◌, ◌^◌, arith, inl, inr}
-use Rattle.std.proofs.lemmas.Bool.{cases_order}
-use Rattle.move_history.specs.Kept.{low_at, IsRising}
+use Rattle.std.proofs.Common.{ℕ, ◌+◌, ◌≤◌, ◌-◌, ◌/◌, arith}
+use Rattle.move_history.specs.Kept.{low_at}
 use Rattle.move_history.proofs.Halving.{few_halvings, halve}
 use Rattle.move_history.proofs.kept.count_below.Goals as goal
 

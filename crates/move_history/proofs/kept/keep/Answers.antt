@@ -1,4 +1,3 @@
-use Rattle.std.proofs.Common.{ℕ, ◌≡◌, sym}
 use Rattle.move_history.proofs.LastBelow.{last_below-keep}
 use Rattle.move_history.proofs.kept.keep.Goals as goal
 

@@ -1,5 +1,4 @@
-use Rattle.std.proofs.Common.{ℕ, ◌≡◌, ◌<◌, ◌≤◌, ◌-◌, sym, arith}
-use Rattle.move_history.specs.Kept.{low_at, last_below}
+use Rattle.std.proofs.Common.{◌-◌, sym, arith}
 use Rattle.move_history.proofs.LastBelow.{last_below-none, last_below-at}
 use Rattle.move_history.proofs.kept.last_event_below.Goals as goal
 

@@ -1,7 +1,5 @@
 use Rattle.peg_groups.proofs.Scan.{keep_best, first_best, next_best, same_best}
-use Rattle.std.proofs.Common.{◌≡◌, refl, sym, ◌∙◌, Some, None, subst, Option, ℕ}
-use Rattle.peg_groups.specs.Groups.{BestUpTo, BestIn}
-use Rattle.peg_groups.specs.declared.group.Candidate.{Candidate}
+use Rattle.std.proofs.Common.{sym, ◌∙◌}
 use Rattle.peg_groups.proofs.first.better.Goals as goal
 
 pub returns-in-None : goal.returns-in-None

@@ -1,4 +1,3 @@
-use Rattle.std.proofs.Common.{◌≡◌, sym}
 use Rattle.peg_groups.proofs.Scan.{keep_higher}
 use Rattle.peg_groups.proofs.first.look_at.Goals as goal
 

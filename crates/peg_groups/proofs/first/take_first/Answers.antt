@@ -1,4 +1,4 @@
-use Rattle.std.proofs.Common.{◌≡◌, refl}
+use Rattle.std.proofs.Common.{refl}
 use Rattle.peg_groups.specs.Groups.{NoneActiveIn}
 use Rattle.peg_groups.proofs.Scan.{upto_all}
 use Rattle.peg_groups.proofs.first.take_first.Goals as goal

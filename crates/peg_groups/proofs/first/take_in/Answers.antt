@@ -1,4 +1,4 @@
-use Rattle.std.proofs.Common.{◌≡◌, List, Option, Some, None, true, false, refl, ap, sym, ◌∙◌, subst, ℕ, slice_get, length}
+use Rattle.std.proofs.Common.{◌≡◌, List, Some, None, true, sym, ◌∙◌, ℕ, slice_get}
 use Rattle.limit_tree.specs.Order.{row_at, is_held}
 use Rattle.venue_words.specs.declared.row.Key.{Key}
 use Rattle.peg_groups.specs.declared.group.Group.{Group}

@@ -1,7 +1,6 @@
-use Rattle.std.proofs.Common.{◌≡◌, ◌<◌, ap, sym, ◌∙◌, arith, length, get_or}
-use Rattle.venue_words.specs.Conditions.{IsKey}
+use Rattle.std.proofs.Common.{arith}
 use Rattle.peg_groups.specs.Flat.{repriced}
-use Rattle.peg_groups.proofs.Mapped.{set-mapped, get_or-mapped, length-mapped}
+use Rattle.peg_groups.proofs.Mapped.{set-mapped}
 use Rattle.peg_groups.proofs.flat.reprice_in.Goals as goal
 
 pub loop-place-preserved : goal.loop-place-preserved

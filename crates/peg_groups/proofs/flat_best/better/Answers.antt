@@ -1,4 +1,4 @@
-use Rattle.std.proofs.Common.{◌≡◌, ◌+◌, ◌≤◌, ◌<◌, List, Option, Some, None, ℕ, length, refl, ap, sym, ◌∙◌, arith, set, true, false, not, is_some}
+use Rattle.std.proofs.Common.{ap, sym, ◌∙◌, is_some}
 use Rattle.peg_groups.proofs.FlatBest.{first_place, keep_place, next_place, none_value, same_place}
 use Rattle.peg_groups.proofs.flat_best.better.Goals as goal
 

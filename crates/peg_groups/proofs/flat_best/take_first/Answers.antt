@@ -1,4 +1,4 @@
-use Rattle.std.proofs.Common.{◌≡◌, ◌+◌, ◌≤◌, ◌<◌, List, Option, Some, None, ℕ, length, refl, ap, sym, ◌∙◌, arith, set, slice_get}
+use Rattle.std.proofs.Common.{◌≡◌, List, Option, Some, None, ℕ, length, sym, ◌∙◌, set, slice_get}
 use Rattle.std.specs.Option.{IfSome, MatchOption}
 use Rattle.peg_groups.specs.Flat.{IsBestPlace, TakesBest, without_node}
 use Rattle.peg_groups.specs.declared.flat.Place.{Place}

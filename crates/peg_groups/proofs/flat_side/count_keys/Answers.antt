@@ -1,4 +1,4 @@
-use Rattle.std.proofs.Common.{◌≡◌, ℕ, ◌+◌, ◌-◌, ◌<◌, ◌≤◌, ◌&&◌, not, zero, suc, Bool, true, false, cond, List, [], ◌∷◌, length, drop, Some, refl, ap, sym, ◌∙◌, subst, arith, slice_get}
+use Rattle.std.proofs.Common.{◌≡◌, ℕ, ◌+◌, ◌-◌, ◌<◌, ◌&&◌, not, zero, suc, Bool, cond, List, [], ◌∷◌, drop, Some, ap, sym, ◌∙◌, subst, arith, slice_get}
 use Rattle.std.specs.List.{list_any}
 use Rattle.venue_words.specs.Key.{same_key}
 use Rattle.peg_groups.specs.Flat.{ArePlaces, is_filled, rows_in}

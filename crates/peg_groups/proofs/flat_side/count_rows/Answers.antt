@@ -1,4 +1,4 @@
-use Rattle.std.proofs.Common.{◌≡◌, ℕ, ◌+◌, ◌-◌, ◌<◌, ◌≤◌, Bool, true, false, cond, List, ◌∷◌, length, drop, Some, refl, ap, sym, ◌∙◌, subst, arith, slice_get, is_some}
+use Rattle.std.proofs.Common.{◌≡◌, ℕ, ◌+◌, ◌-◌, ◌<◌, true, false, cond, List, length, drop, Some, ap, sym, ◌∙◌, arith, slice_get}
 use Rattle.peg_groups.specs.Flat.{is_filled, rows_in}
 use Rattle.peg_groups.specs.declared.flat.Place.{Place}
 use Rattle.peg_groups.proofs.FlatSteps.{length_place}

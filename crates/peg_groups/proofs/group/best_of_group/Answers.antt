@@ -1,7 +1,5 @@
-use Rattle.std.proofs.Common.{◌≡◌, ◌<◌, ◌≤◌, ℕ, refl, ap, sym, ◌∙◌, subst, arith, inl, inr, true}
-use Rattle.venue_words.specs.declared.row.Row.{Row}
-use Rattle.peg_groups.specs.Group.{IsGroupBest, IsNotAfter, time_in}
-use Rattle.peg_groups.specs.declared.group.Candidate.{Candidate}
+use Rattle.std.proofs.Common.{◌≡◌, ◌<◌, refl, inl, inr}
+use Rattle.peg_groups.specs.Group.{IsNotAfter, time_in}
 use Rattle.peg_groups.proofs.GroupBest.{best_of_above, best_of_at, best_of_below, after_at_value, after_above_value, after_none, no_rows}
 use Rattle.peg_groups.proofs.group.best_of_group.Goals as goal
 

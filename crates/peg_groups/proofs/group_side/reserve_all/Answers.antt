@@ -1,8 +1,6 @@
-use Rattle.std.proofs.Common.{◌≡◌, ◌⊎◌, refl, sym, ap, ◌∙◌, List, length, Some, inl, inr, arith}
+use Rattle.std.proofs.Common.{◌≡◌, ap, ◌∙◌, length}
 use Rattle.std.proofs.lemmas.Result.{on_err_weaker}
-use Rattle.venue_words.specs.declared.row.Key.{Key}
-use Rattle.peg_groups.specs.Groups.{IsRoomier, HasNew, HaveRoom, ReservesGroups}
-use Rattle.peg_groups.specs.declared.group.Group.{Group}
+use Rattle.peg_groups.specs.Groups.{IsRoomier}
 use Rattle.peg_groups.proofs.Repricing.{paired_length, any_ok, any_err, room_grown}
 use Rattle.peg_groups.proofs.group_side.reserve_all.Goals as goal
 

@@ -1,4 +1,3 @@
-use Rattle.std.proofs.Common.{◌≡◌}
 use Rattle.peg_groups.proofs.GroupSteps.{has_none, free_in}
 use Rattle.peg_groups.proofs.groups.enter.Goals as goal
 

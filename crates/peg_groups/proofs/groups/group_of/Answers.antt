@@ -1,4 +1,3 @@
-use Rattle.std.proofs.Common.{refl}
 use Rattle.venue_words.specs.KeyLaws.{key_true, key_same}
 use Rattle.peg_groups.proofs.GroupLookup.{none_there, some_there}
 use Rattle.peg_groups.proofs.groups.group_of.Goals as goal

@@ -1,4 +1,4 @@
-use Rattle.std.proofs.Common.{◌≡◌, ◌⊎◌, List, ◌∷◌, Option, Some, None, refl, ap, sym, ◌∙◌, subst, ℕ, slice_get, inl, inr}
+use Rattle.std.proofs.Common.{◌≡◌, List, Option, Some, None, sym, ◌∙◌, ℕ, slice_get, inr}
 use Rattle.std.specs.Option.{MatchOption}
 use Rattle.std.specs.declared.boxed.Box.{Box}
 use Rattle.std.specs.declared.alloc.Global.{Global}

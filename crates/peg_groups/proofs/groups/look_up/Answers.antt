@@ -1,6 +1,6 @@
-use Rattle.std.proofs.Common.{◌≡◌, ◌⊎◌, List, ◌∷◌, Option, Some, None, true, false, refl, ap, sym, ◌∙◌, subst, ℕ, slice_get, inl, inr}
+use Rattle.std.proofs.Common.{◌≡◌, List, Option, Some, None, true, false, sym, ◌∙◌, ℕ, slice_get, inr}
 use Rattle.std.specs.Option.{MatchOption}
-use Rattle.limit_tree.specs.Order.{row_at, is_held}
+use Rattle.limit_tree.specs.Order.{is_held}
 use Rattle.venue_words.specs.Peg.{row_value}
 use Rattle.venue_words.specs.declared.row.Key.{Key}
 use Rattle.peg_groups.specs.Group.{time_in, value_from}

@@ -1,4 +1,4 @@
-use Rattle.std.proofs.Common.{◌≡◌, refl, sym, ◌∙◌, ap, subst}
+use Rattle.std.proofs.Common.{refl}
 use Rattle.peg_groups.proofs.pricing.reprice_at.Goals as goal
 
 pub peg_value-requires : goal.peg_value-requires

@@ -1,4 +1,4 @@
-use Rattle.std.proofs.Common.{◌≡◌, ◌<◌, ◌≤◌, ◌+◌, ◌*◌, ◌∙◌, refl, sym, length, arith, add-one}
+use Rattle.std.proofs.Common.{◌<◌, ◌∙◌, sym, arith, add-one}
 use Rattle.venue_words.specs.Conditions.{IsKey}
 use Rattle.peg_groups.specs.Groups.{IsMoved}
 use Rattle.peg_groups.proofs.Paired.{paired_at, paired_more, paired_len, paired_end, each_at}

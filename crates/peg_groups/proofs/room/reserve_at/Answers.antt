@@ -1,4 +1,4 @@
-use Rattle.std.proofs.Common.{◌≡◌, refl}
+use Rattle.std.proofs.Common.{refl}
 use Rattle.peg_groups.proofs.room.reserve_at.Goals as goal
 
 pub returns : goal.returns

@@ -1,6 +1,5 @@
-use Rattle.std.proofs.Common.{◌≡◌, refl, sym, ◌∙◌, ap, subst, inl, inr, arith}
+use Rattle.std.proofs.Common.{refl, sym, ◌∙◌, inr}
 use Rattle.venue_words.specs.KeyLaws.{key_true}
-use Rattle.peg_groups.specs.Groups.{HasGroup}
 use Rattle.peg_groups.proofs.GroupLookup.{found_has, found_none, insert_new, has_last}
 use Rattle.peg_groups.proofs.room.reserve_group.Goals as goal
 

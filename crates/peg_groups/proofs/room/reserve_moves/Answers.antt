@@ -1,9 +1,9 @@
-use Rattle.std.proofs.Common.{◌≡◌, ◌<◌, ◌≤◌, ◌+◌, ◌∙◌, refl, sym, length, arith, add-one, ap, subst, ℕ, suc}
+use Rattle.std.proofs.Common.{◌≡◌, ◌<◌, refl, length, arith, add-one, subst, ℕ, suc}
 use Rattle.indexmap.specs.IndexMap.{set_value_at}
 use Rattle.peg_groups.specs.Groups.{IsRoomier, EachUpTo}
 use Rattle.peg_groups.specs.declared.group.Group.{Group}
 use Rattle.venue_words.specs.declared.row.Key.{Key}
-use Rattle.peg_groups.proofs.Paired.{paired_at, paired_more, paired_len, paired_end, paired_all, upto_set, at_set}
+use Rattle.peg_groups.proofs.Paired.{paired_more, paired_len, paired_end, paired_all, upto_set, at_set}
 use Rattle.peg_groups.proofs.Scan.{each_more, upto_all}
 use Rattle.peg_groups.proofs.room.reserve_moves.Goals as goal
 

@@ -1,4 +1,4 @@
-use Rattle.std.proofs.Common.{◌≡◌, ℕ, zero, suc, ◌+◌, ◌<◌, ◌≤◌, not, Bool, true, false, cond, List, [], ◌∷◌, length, filter, take, Some, refl, ap, sym, ◌∙◌, subst, arith, add-one, slice_get}
+use Rattle.std.proofs.Common.{◌≡◌, ℕ, zero, suc, ◌+◌, not, Bool, true, false, cond, List, [], ◌∷◌, length, filter, take, Some, refl, ap, sym, ◌∙◌, subst, arith, add-one, slice_get}
 use Rattle.venue_words.specs.declared.row.Key.{Key}
 use Rattle.limit_tree.specs.Order.{is_empty}
 use Rattle.peg_groups.specs.Groups.{is_used}

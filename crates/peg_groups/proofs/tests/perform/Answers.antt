@@ -1,4 +1,4 @@
-use Rattle.std.proofs.Common.{◌≡◌, ◌+◌, ◌<◌, ◌≤◌, arith, ap, sym, ◌∙◌, subst}
+use Rattle.std.proofs.Common.{◌≡◌, ◌+◌, arith, ap, sym, ◌∙◌, subst}
 use Rattle.venue_words.specs.declared.row.Row.{Row}
 use Rattle.peg_groups.specs.Side.{IsLaterThan, SideState}
 use Rattle.peg_groups.proofs.Later.{later_more, later_repriced, later_with}

@@ -1,4 +1,4 @@
-use Rattle.std.proofs.Common.{◌≡◌, ◌+◌, ◌-◌, true, ap, sym, ◌∙◌}
+use Rattle.std.proofs.Common.{◌≡◌, ap, ◌∙◌}
 use Rattle.venue_words.specs.declared.row.Row.{Row}
 use Rattle.limit_tree.specs.Part.{Part}
 use Rattle.peg_groups.proofs.Later.{after_next, later_with, time_found}

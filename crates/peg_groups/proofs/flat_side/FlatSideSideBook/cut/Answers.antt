@@ -1,4 +1,4 @@
-use Rattle.std.proofs.Common.{◌≡◌, ◌+◌, ◌≤◌, ◌<◌, List, Option, Some, None, ℕ, length, refl, ap, sym, ◌∙◌, arith, set}
+use Rattle.std.proofs.Common.{◌≡◌, List, Option, Some, None, ℕ, ap, arith}
 use Rattle.venue_words.specs.declared.row.Priced.{Priced}
 use Rattle.std.specs.Option.{MatchOption}
 use Rattle.std.specs.declared.alloc.Global.{Global}

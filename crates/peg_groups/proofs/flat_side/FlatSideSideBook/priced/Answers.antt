@@ -1,4 +1,3 @@
-use Rattle.std.proofs.Common.{◌≡◌, ◌+◌, ◌≤◌, ◌<◌, List, Option, Some, None, ℕ, length, refl, ap, sym, ◌∙◌, arith, set}
 use Rattle.peg_groups.proofs.FlatSides.{priced_outcome}
 use Rattle.peg_groups.proofs.flat_side.FlatSideSideBook.priced.Goals as goal
 

@@ -1,7 +1,6 @@
-use Rattle.std.proofs.Common.{◌≡◌, ◌+◌, ◌≤◌, ◌<◌, List, Option, Some, None, ℕ, length, refl, ap, sym, ◌∙◌, arith, set}
+use Rattle.std.proofs.Common.{◌≡◌, List, Option, ℕ, ap, ◌∙◌, arith}
 use Rattle.venue_words.specs.declared.row.Priced.{Priced}
 use Rattle.venue_words.specs.Peg.{row_value}
-use Rattle.venue_words.specs.declared.row.Row.{Row}
 use Rattle.peg_groups.proofs.FlatSides.{keeps_append, row_added}
 use Rattle.peg_groups.proofs.flat_side.FlatSideSideBook.put.Goals as goal
 

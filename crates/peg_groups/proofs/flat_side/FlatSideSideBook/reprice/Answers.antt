@@ -1,4 +1,4 @@
-use Rattle.std.proofs.Common.{◌≡◌, ◌+◌, ◌≤◌, ◌<◌, List, Option, Some, None, ℕ, length, refl, ap, sym, ◌∙◌, arith, set}
+use Rattle.std.proofs.Common.{List, ap, ◌∙◌, arith}
 use Rattle.venue_words.specs.declared.row.Priced.{Priced}
 use Rattle.peg_groups.specs.Flat.{rows_in}
 use Rattle.peg_groups.proofs.FlatRows.{entries_early}

@@ -1,6 +1,6 @@
-use Rattle.std.proofs.Common.{◌≡◌, ◌+◌, ◌≤◌, ◌<◌, List, Option, Some, None, ℕ, length, refl, ap, sym, ◌∙◌, arith, set}
+use Rattle.std.proofs.Common.{◌≡◌, List, Option, Some, None, ℕ, ap, arith}
 use Rattle.venue_words.specs.declared.row.Priced.{Priced}
-use Rattle.std.specs.Option.{IfSome, IsNone}
+use Rattle.std.specs.Option.{IfSome}
 use Rattle.venue_words.specs.Rows.{without_entry}
 use Rattle.venue_words.specs.declared.price.Best.{Best}
 use Rattle.peg_groups.specs.Flat.{rows_in}

@@ -1,4 +1,4 @@
-use Rattle.std.proofs.Common.{◌≡◌, ap, sym, ◌∙◌, List, length, refl, Option, Some, None, ℕ, arith, ◌≤◌, ◌-◌, is_some, true, cond, ◌+◌}
+use Rattle.std.proofs.Common.{◌≡◌, ap, List, length, refl, Option, Some, None, ℕ, arith, ◌≤◌, ◌-◌, is_some, true}
 use Rattle.std.specs.Option.{MatchOption, IsNone, IfSome}
 use Rattle.std.specs.declared.boxed.Box.{Box}
 use Rattle.std.specs.declared.alloc.Global.{Global}
@@ -8,8 +8,7 @@ use Rattle.peg_groups.proofs.Counting.{length_without}
 use Rattle.limit_tree.specs.Part.{Part}
 use Rattle.venue_words.specs.declared.row.Key.{Key}
 use Rattle.venue_words.specs.declared.row.Priced.{Priced}
-use Rattle.peg_groups.specs.Side.{SideState, IsCut, NoneAt, IsHeldAt, standing_of}
-use Rattle.venue_words.specs.Rows.{IsByEntry}
+use Rattle.peg_groups.specs.Side.{IsCut, NoneAt, IsHeldAt, standing_of}
 use Rattle.peg_groups.specs.Groups.{GroupsView, IsGroupSide, groups_state, rows_of, NoneIn, LeavesGroup, KeepsMoves, FitsGroup}
 use Rattle.peg_groups.specs.declared.group.Group.{Group}
 use Rattle.peg_groups.proofs.GroupSteps.{by_entry_groups}

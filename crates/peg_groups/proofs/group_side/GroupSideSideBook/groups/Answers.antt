@@ -1,4 +1,4 @@
-use Rattle.std.proofs.Common.{◌≡◌, sym, ◌∙◌}
+use Rattle.std.proofs.Common.{sym, ◌∙◌}
 use Rattle.peg_groups.proofs.KeyCounts.{key_count_used}
 use Rattle.peg_groups.proofs.group_side.GroupSideSideBook.groups.Goals as goal
 

@@ -1,4 +1,4 @@
-use Rattle.std.proofs.Common.{◌≡◌, List, Option, Some, None, ℕ}
+use Rattle.std.proofs.Common.{◌≡◌, Option, Some, None, ℕ}
 use Rattle.std.specs.Option.{MatchOption}
 use Rattle.venue_words.specs.declared.row.Key.{Key}
 use Rattle.venue_words.specs.declared.row.Priced.{Priced}

@@ -1,9 +1,9 @@
-use Rattle.std.proofs.Common.{◌≡◌, ap, sym, ◌∙◌, List, length, refl, arith, ◌<◌, ◌^◌, ◌+◌}
+use Rattle.std.proofs.Common.{◌≡◌, ap, ◌∙◌, List, length, arith, ◌<◌, ◌^◌}
 use Rattle.peg_groups.proofs.Counting.{few_in_groups, length_insert}
 use Rattle.venue_words.specs.declared.row.Row.{Row}
 use Rattle.venue_words.specs.declared.row.Priced.{Priced}
-use Rattle.peg_groups.specs.Side.{SideState, entered}
-use Rattle.peg_groups.specs.Groups.{GroupsView, rows_of}
+use Rattle.peg_groups.specs.Side.{entered}
+use Rattle.peg_groups.specs.Groups.{rows_of}
 use Rattle.peg_groups.proofs.SideSteps.{absent_later, side_put, keeps_enter}
 use Rattle.peg_groups.proofs.group_side.GroupSideSideBook.put.Goals as goal
 

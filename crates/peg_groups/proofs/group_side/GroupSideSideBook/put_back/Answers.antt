@@ -1,9 +1,9 @@
-use Rattle.std.proofs.Common.{◌≡◌, ap, sym, ◌∙◌, List, length, refl, arith, ◌<◌, ◌^◌, ◌+◌}
+use Rattle.std.proofs.Common.{◌≡◌, ap, ◌∙◌, List, length, arith, ◌<◌, ◌^◌}
 use Rattle.peg_groups.proofs.Counting.{few_in_groups, length_insert}
 use Rattle.venue_words.specs.declared.row.Row.{Row}
 use Rattle.venue_words.specs.declared.row.Priced.{Priced}
-use Rattle.peg_groups.specs.Side.{SideState, taken_row}
-use Rattle.peg_groups.specs.Groups.{GroupsView, rows_of}
+use Rattle.peg_groups.specs.Side.{taken_row}
+use Rattle.peg_groups.specs.Groups.{rows_of}
 use Rattle.peg_groups.proofs.SideSteps.{side_back, keeps_enter}
 use Rattle.peg_groups.proofs.group_side.GroupSideSideBook.put_back.Goals as goal
 

@@ -1,7 +1,7 @@
-use Rattle.std.proofs.Common.{◌≡◌, ◌≤◌, ◌+◌, ap, ◌∙◌, List, length, sym}
+use Rattle.std.proofs.Common.{ap, ◌∙◌, List, length, sym}
 use Rattle.peg_groups.proofs.Counting.{length_reprice}
 use Rattle.venue_words.specs.declared.row.Priced.{Priced}
-use Rattle.peg_groups.specs.Groups.{GroupsView, IsMoved, rows_of}
+use Rattle.peg_groups.specs.Groups.{IsMoved, rows_of}
 use Rattle.peg_groups.proofs.Repricing.{side_repriced, room_for_event, paired_has, paired_length}
 use Rattle.peg_groups.proofs.group_side.GroupSideSideBook.reprice.Goals as goal
 

@@ -1,9 +1,8 @@
-use Rattle.std.proofs.Common.{◌≡◌, ◌≤◌, ◌+◌, refl, sym, ap, ◌∙◌, List, length, Some, None, Option}
+use Rattle.std.proofs.Common.{◌≡◌, refl, sym, ap, ◌∙◌, List, length, Some, None, Option}
 use Rattle.std.specs.Option.{IsNone}
 use Rattle.peg_groups.proofs.GroupSteps.{by_entry_groups}
 use Rattle.venue_words.specs.declared.row.Key.{Key}
 use Rattle.venue_words.specs.declared.row.Priced.{Priced}
-use Rattle.peg_groups.specs.Groups.{GroupsView}
 use Rattle.peg_groups.proofs.Repricing.{IsReserved, side_reserved, reserved_none}
 use Rattle.peg_groups.proofs.group_side.GroupSideSideBook.reserve.Goals as goal
 

@@ -1,12 +1,11 @@
-use Rattle.std.proofs.Common.{◌≡◌, ◌≤◌, ◌+◌, ◌*◌, ap, sym, ◌∙◌, List, length, refl, Option, Some, None, ℕ, arith, ◌-◌, is_some, true, cond}
-use Rattle.std.specs.Option.{MatchOption, IsNone, IfSome}
+use Rattle.std.proofs.Common.{◌≡◌, ◌≤◌, ap, List, length, refl, Option, Some, None, arith, ◌-◌, is_some, true}
+use Rattle.std.specs.Option.{IsNone, IfSome}
 use Rattle.std.specs.Prelude.{if◌then◌else◌}
 use Rattle.peg_groups.specs.declared.group_side.GroupSide.TheInside.{Inside}
 use Rattle.peg_groups.proofs.Counting.{length_without}
 use Rattle.venue_words.specs.declared.row.Key.{Key}
 use Rattle.venue_words.specs.declared.row.Priced.{Priced}
-use Rattle.peg_groups.specs.Side.{SideState, standing_of, without, taken_row}
-use Rattle.venue_words.specs.Rows.{IsByEntry}
+use Rattle.peg_groups.specs.Side.{standing_of, without, taken_row}
 use Rattle.venue_words.specs.FirstRow.{IsFirst, NoneActive}
 use Rattle.peg_groups.specs.Groups.{GroupsView, IsGroupSide, groups_state, rows_of, TakesFirst, NoneActiveIn, EachGroup, KeepsMoves, FitsGroup}
 use Rattle.peg_groups.specs.declared.group.Group.{Group}

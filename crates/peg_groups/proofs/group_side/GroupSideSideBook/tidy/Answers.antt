@@ -1,7 +1,7 @@
-use Rattle.std.proofs.Common.{◌≡◌, ◌≤◌, ◌+◌, ap, ◌∙◌, List, length, sym}
+use Rattle.std.proofs.Common.{ap, ◌∙◌, List, length, sym}
 use Rattle.peg_groups.proofs.KeyCounts.{key_count_used}
 use Rattle.venue_words.specs.declared.row.Priced.{Priced}
-use Rattle.peg_groups.specs.Groups.{GroupsView, rows_of}
+use Rattle.peg_groups.specs.Groups.{rows_of}
 use Rattle.peg_groups.proofs.Repricing.{rows_used, groups_used, length_used}
 use Rattle.peg_groups.proofs.group_side.GroupSideSideBook.tidy.Goals as goal
 
