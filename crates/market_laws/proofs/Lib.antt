@@ -1,4 +1,6 @@
+pub mod Backing
 pub mod Bounding
+pub mod Differing
 pub mod Growing
 pub mod Lasting
 pub mod Lists
@@ -9,5 +11,6 @@ pub mod Replying
 pub mod Settling
 pub mod Siding
 pub mod Summing
+pub mod Sweeping
 pub mod Telling
 pub mod Walking

@@ -2,4 +2,5 @@ pub mod Histories
 pub mod Orders
 pub mod Placed
 pub mod Replies
+pub mod Sound
 pub mod Trading
