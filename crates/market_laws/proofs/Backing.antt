@@ -1,14 +1,14 @@
 -- Orders and rows go on agreeing as trades are made.
-use Rattle.std.proofs.Common.{◌≡◌, ℕ, zero, suc, ◌+◌, ◌-◌, ◌≤◌, Bool, true, false, cond, ◌||◌, List, [], ◌∷◌, ◌++◌, length, Option, Some, None, refl, ap, sym, ◌∙◌, subst, inl, inr, arith}
-use Rattle.std.specs.Prelude.{◌⊎◌, slice_get, map, filter, fold, nat_lt, sum_by, option_map, ◌==◌}
+use Rattle.std.proofs.Common.{◌≡◌, ℕ, zero, suc, ◌+◌, ◌≤◌, Bool, true, false, cond, ◌||◌, List, [], ◌∷◌, length, Some, None, refl, ap, sym, ◌∙◌, subst, inl, inr, arith}
+use Rattle.std.specs.Prelude.{slice_get, map, nat_lt, sum_by, ◌==◌}
 use Rattle.std.specs.List.{AllByRecursion}
 use Rattle.std.proofs.lemmas.Bool.{ne_eqb, eq-eqb}
 use Rattle.std.proofs.lemmas.Bool.Decides.{nat_tests}
 use Rattle.std.proofs.lemmas.Option.{slice_get_past}
-use Rattle.std.proofs.lemmas.List.Sums.{sum_by-append, sum_by-cons, fold-append}
+use Rattle.std.proofs.lemmas.List.Sums.{sum_by-cons}
 use Rattle.venue_words.specs.declared.row.Row.{Row}
 use Rattle.venue_words.specs.declared.row.Priced.{Priced}
-use Rattle.venue_words.specs.ListLaws.{all_weaken, all_both, all_append}
+use Rattle.venue_words.specs.ListLaws.{all_weaken, all_both}
 use Rattle.venue_words.specs.Price.{crosses}
 use Rattle.eager_meaning.specs.declared.order.Order.{Order}
 use Rattle.eager_meaning.specs.declared.trade.Fill.{Fill}
@@ -16,12 +16,11 @@ use Rattle.eager_meaning.specs.declared.trade.Take.{Take}
 use Rattle.eager_meaning.specs.Orders.{changed_at}
 use Rattle.eager_meaning.specs.Trades.{order_after, orders_after, orders_after_all}
 use Rattle.eager_meaning.specs.Walk.{total_of}
-use Rattle.eager_meaning.specs.Matching.{takes_of, fill_of, fills_of, row_after, shares_of, unfilled, rows_after}
-use Rattle.market_laws.specs.Sound.{AreDifferent, IsNew, AllDiffer, IsHeld, IsLiveRow, IsSoundOrder, AreSound}
-use Rattle.market_laws.proofs.Lists.{all_filter, all_map}
+use Rattle.eager_meaning.specs.Matching.{takes_of, fill_of, fills_of, row_after, shares_of, unfilled}
+use Rattle.market_laws.specs.Sound.{AreDifferent, IsNew, AllDiffer, IsHeld, IsLiveRow}
 use Rattle.market_laws.proofs.Siding.{changed_next}
 use Rattle.market_laws.proofs.Walking.{takes_all}
-use Rattle.market_laws.proofs.Differing.{different_back, IsSameOrDiffers, each_same_or_differs, differ_filter, differ_map, new_map, across_map, across_filter, TakesDiffer, takes_differ, IsWithin, takes_within, taken_by, taken_cons, none_taken, Fits, shares_found}
+use Rattle.market_laws.proofs.Differing.{IsSameOrDiffers, takes_differ, IsWithin, takes_within, taken_by, taken_cons, none_taken, Fits, shares_found}
 
 -- ---- what trades add to an order
 
@@ -88,7 +87,7 @@ found_after (fill ∷ fills) orders k order h =
       adds = record { cum = (let a = one.adds.cum in let b = more.adds.cum in omega arith); quantity = more.adds.quantity ∙ one.adds.quantity; member = more.adds.member ∙ one.adds.member };
     }
 
-length_changed : (f : Order → Order) (k : ℕ) (orders : List Order) → length (changed_at f k orders) ≡ length orders
+pub length_changed : (f : Order → Order) (k : ℕ) (orders : List Order) → length (changed_at f k orders) ≡ length orders
 length_changed f k [] = refl
 length_changed f zero (o ∷ os) = refl
 length_changed f (suc k) (o ∷ os) = rw (changed_next f k o os) (ap suc (length_changed f k os))
@@ -108,10 +107,10 @@ none_before fills orders k h =
     let past : length orders ≤ k = past_of orders k h in
     slice_get_past (orders_after_all fills orders) k (omega arith)
   where
-  past_of : (os : List Order) (j : ℕ) → slice_get os j ≡ None → length os ≤ j
-  past_of [] j h = omega arith
-  past_of (o ∷ os) zero h = cc
-  past_of (o ∷ os) (suc j) h = let more = past_of os j h in omega arith
+    past_of : (os : List Order) (j : ℕ) → slice_get os j ≡ None → length os ≤ j
+    past_of [] j h = omega arith
+    past_of (o ∷ os) zero h = cc
+    past_of (o ∷ os) (suc j) h = let more = past_of os j h in omega arith
 
 -- ---- one walk's trades
 

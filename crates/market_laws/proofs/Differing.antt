@@ -1,23 +1,21 @@
 -- Rows that differ by entry and by order, and what a walk takes from each.
-use Rattle.std.proofs.Common.{◌≡◌, ℕ, ◌+◌, ◌-◌, ◌≤◌, Bool, true, false, cond, ◌&&◌, List, [], ◌∷◌, ◌++◌, Option, Some, None, refl, ap, sym, ◌∙◌, subst, inl, inr, arith}
-use Rattle.std.specs.Prelude.{◌⊎◌, map, filter, fold, find, nat_lt, nat_le, min, sum_by, ◌==◌, unwrap_or}
-use Rattle.std.specs.Option.{option_map_or}
+use Rattle.std.proofs.Common.{◌≡◌, ℕ, ◌+◌, ◌-◌, ◌≤◌, Bool, true, false, cond, ◌&&◌, List, [], ◌∷◌, ◌++◌, Some, None, refl, sym, ◌∙◌, inl, inr, arith}
+use Rattle.std.specs.Prelude.{◌⊎◌, map, filter, fold, nat_lt, nat_le, min, sum_by, ◌==◌, unwrap_or}
 use Rattle.std.specs.List.{AllByRecursion}
 use Rattle.std.proofs.lemmas.Bool.{ne_eqb, eq-eqb}
-use Rattle.std.proofs.lemmas.Bool.Decides.{nat_tests}
-use Rattle.std.proofs.lemmas.List.Sums.{sum_by-append, sum_by-cons}
+use Rattle.std.proofs.lemmas.List.Sums.{sum_by-cons}
 use Rattle.venue_words.specs.declared.row.Row.{Row}
 use Rattle.venue_words.specs.declared.row.Priced.{Priced}
 use Rattle.venue_words.specs.ListLaws.{all_weaken, all_both, all_append}
 use Rattle.venue_words.specs.Price.{crosses}
-use Rattle.venue_words.specs.Priority.{placed, sorted, in_priority, goes_before}
+use Rattle.venue_words.specs.Priority.{placed, in_priority, goes_before}
 use Rattle.eager_meaning.specs.declared.trade.Take.{Take}
 use Rattle.eager_meaning.specs.Floor.{floor}
 use Rattle.eager_meaning.specs.Walk.{walk, may_fill, taken_from, stands, total_of, least_fill}
-use Rattle.eager_meaning.specs.Matching.{takes_of, row_after, shares_of, unfilled, rows_after}
+use Rattle.eager_meaning.specs.Matching.{takes_of, shares_of}
 use Rattle.market_laws.specs.Sound.{AreDifferent, IsNew, AllDiffer}
 use Rattle.market_laws.proofs.Lists.{all_filter, all_map}
-use Rattle.market_laws.proofs.Walking.{in_priority_all, walk_all, takes_all}
+use Rattle.market_laws.proofs.Walking.{walk_all}
 
 pub different_back : (x y : Row) → AreDifferent x y → AreDifferent y x
 different_back x y d = record { entry = λ e. d.entry (sym e); order = λ e. d.order (sym e) }
@@ -33,7 +31,7 @@ each_same_or_differs [] a = tt
 each_same_or_differs (x ∷ xs) a = (
   (inl (refl, refl), all_weaken (λ y. AreDifferent x.row y.row) (λ y. IsSameOrDiffers x.row y.row) (λ y d. inr d) xs a.0),
   all_both (λ z. AreDifferent x.row z.row) (λ z. AllByRecursion (λ y. IsSameOrDiffers z.row y.row) xs) (λ z. AllByRecursion (λ y. IsSameOrDiffers z.row y.row) (x ∷ xs))
-  (λ z d more. (inr (different_back x.row z.row d), more)) xs a.0 (each_same_or_differs xs a.1),
+      (λ z d more. (inr (different_back x.row z.row d), more)) xs a.0 (each_same_or_differs xs a.1),
 )
 
 -- ---- lists that keep the difference

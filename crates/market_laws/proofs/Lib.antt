@@ -1,3 +1,5 @@
+pub mod Admitting
+pub mod Agreeing
 pub mod Backing
 pub mod Bounding
 pub mod Differing
@@ -6,7 +8,9 @@ pub mod Lasting
 pub mod Lists
 pub mod Living
 pub mod Meeting
+pub mod Naming
 pub mod Numbering
+pub mod Replacing
 pub mod Replying
 pub mod Settling
 pub mod Siding

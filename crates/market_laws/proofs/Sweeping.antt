@@ -1,9 +1,8 @@
 -- A walk, a sweep and a recheck leave rows and orders that agree.
-use Rattle.std.proofs.Common.{◌≡◌, ℕ, ◌+◌, ◌≤◌, Bool, true, false, cond, List, [], ◌∷◌, ◌++◌, Option, Some, None, refl, ap, sym, ◌∙◌, subst, inl, inr, arith}
+use Rattle.std.proofs.Common.{◌≡◌, ℕ, ◌+◌, ◌≤◌, true, false, cond, List, [], ◌∷◌, ◌++◌, Option, Some, None, refl, ap, sym, ◌∙◌, subst, inl, inr, arith}
 use Rattle.std.specs.Prelude.{slice_get, map, nat_lt, nat_eq, ◌==◌}
 use Rattle.std.specs.Option.{option_eq}
 use Rattle.std.specs.List.{AllByRecursion}
-use Rattle.std.proofs.lemmas.Bool.{ne_eqb}
 use Rattle.std.proofs.lemmas.Bool.Decides.{nat_tests}
 use Rattle.std.proofs.lemmas.List.Sums.{fold-append}
 use Rattle.venue_words.specs.declared.price.Best.{Best}
@@ -19,11 +18,11 @@ use Rattle.eager_meaning.specs.declared.trade.Take.{Take}
 use Rattle.eager_meaning.specs.Trades.{orders_after, orders_after_all}
 use Rattle.eager_meaning.specs.Walk.{total_of}
 use Rattle.eager_meaning.specs.Matching.{takes_of, fills_of, row_after, shares_of, rows_after}
-use Rattle.eager_meaning.specs.Recheck.{Sides, meet, crosses_any, sweep, Matched, recheck}
+use Rattle.eager_meaning.specs.Recheck.{Sides, meet, crosses_any, sweep, recheck}
 use Rattle.market_laws.specs.Sound.{AreDifferent, IsNew, AllDiffer, IsHeld, IsLiveRow, IsSoundOrder, AreSound}
 use Rattle.market_laws.proofs.Lists.{all_map}
 use Rattle.market_laws.proofs.Walking.{rows_after_all, in_priority_all}
-use Rattle.market_laws.proofs.Differing.{different_back, KeepsNames, IsSameOrDiffers, each_same_or_differs, differ_filter, differ_map, across_map, across_filter, across_back, differ_in_priority, TakesDiffer, takes_differ, IsWithin, takes_within, taken_by, taken_cons, none_taken, Fits, shares_found}
+use Rattle.market_laws.proofs.Differing.{different_back, KeepsNames, IsSameOrDiffers, each_same_or_differs, differ_filter, differ_map, across_map, across_back, differ_in_priority, TakesDiffer, takes_differ, takes_within, taken_by, taken_cons, none_taken, Fits, shares_found}
 use Rattle.market_laws.proofs.Backing.{traded_in, found_after, none_before, traded_by_walk, held_after, still_held, live_unfilled, same_leaves, IsFit, takes_fit, no_take, takes_new, taker_trades, others_rest, met_held}
 
 -- ---- orders after a walk
@@ -90,7 +89,7 @@ same_or_differs_after x m y d = elim d [ inl same ↦ inl same | inr other ↦ i
 pub new_after : (x : Row) (takes : List Take) (rows : List Priced) → IsNew x rows → IsNew x (rows_after takes rows)
 new_after x takes rows a = rows_after_all (λ y. AreDifferent x y.row) (λ m y d. different_after x m y d) takes rows a
 
-new_from : (m : ℕ) (x : Priced) (rows : List Priced) → IsNew x.row rows → IsNew (row_after m x).row rows
+pub new_from : (m : ℕ) (x : Priced) (rows : List Priced) → IsNew x.row rows → IsNew (row_after m x).row rows
 unfolding row_after
 new_from m x rows a = all_weaken (λ y. AreDifferent x.row y.row) (λ y. AreDifferent (row_after m x).row y.row) (λ y d. record { entry = d.entry; order = d.order }) rows a
 
@@ -106,8 +105,7 @@ module _ (n : ℕ) (orders : List Order) (taker : Priced) (others : List Priced)
       let takes : List Take = takes_of taker others in
       let all = traded_by_walk k taker takes in
       let s = sound k order h in
-      let within = takes_within taker others in
-      (
+      let within = takes_within taker others in (
         s,
         (elim (taker.row.order == k) as (λ b. (taker.row.order == k) ≡ b → order.cum + traded_in k (fills_of taker takes) ≤ order.quantity) [
           | true ↦ λ e.
@@ -194,10 +192,10 @@ rest_taking n orders taker takers sides live differ t =
     let both = all_both (λ x. IsHeld n orders x.row) (λ x. AreDifferent taker.row x.row) (λ x. IsHeld n orders x.row × AreDifferent taker.row x.row) (λ x h d. (h, d)) takers t.held.1 t.differ.0 in
     record {
       held = all_both (λ x. IsHeld n orders x.row × AreDifferent taker.row x.row) (λ x. IsNew x.row sides.others) (λ x. IsHeld n next x.row)
-      (λ x p d. still_held n orders fills x.row p.0 (others_rest n orders taker sides.others t.held.0 live differ t.fresh.0 x.row p.1 d)) takers both t.fresh.1;
+          (λ x p d. still_held n orders fills x.row p.0 (others_rest n orders taker sides.others t.held.0 live differ t.fresh.0 x.row p.1 d)) takers both t.fresh.1;
       differ = t.differ.1;
       same = all_weaken (λ x. AllByRecursion (λ y. IsSameOrDiffers x.row y.row) sides.own) (λ x. AllByRecursion (λ y. IsSameOrDiffers x.row y.row) (rows_after mine sides.own))
-      (λ x p. rows_after_all (λ y. IsSameOrDiffers x.row y.row) (λ m y d. same_or_differs_after x.row m y d) mine sides.own p) takers t.same.1;
+          (λ x p. rows_after_all (λ y. IsSameOrDiffers x.row y.row) (λ m y d. same_or_differs_after x.row m y d) mine sides.own p) takers t.same.1;
       fresh = all_weaken (λ x. IsNew x.row sides.others) (λ x. IsNew x.row (rows_after takes sides.others)) (λ x d. new_after x.row takes sides.others d) takers t.fresh.1;
     }
 

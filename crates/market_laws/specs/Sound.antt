@@ -1,10 +1,12 @@
 -- Rows and orders of a book that agree with each other.
-use Rattle.std.specs.Prelude.{◌≡◌, ℕ, ◌+◌, ◌≤◌, nat_lt, List, [], ◌∷◌, slice_get, Some}
+use Rattle.std.specs.Prelude.{◌≡◌, ℕ, ◌+◌, ◌≤◌, nat_lt, List, [], ◌∷◌, length, slice_get, Some}
 use Rattle.std.specs.List.{AllByRecursion}
 use Rattle.venue_words.specs.declared.row.Row.{Row}
 use Rattle.venue_words.specs.declared.row.Priced.{Priced}
 use Rattle.eager_meaning.specs.declared.order.Order.{Order}
+use Rattle.venue_words.specs.declared.command.Event.{Event}
 use Rattle.eager_meaning.specs.State.{State}
+use Rattle.eager_meaning.specs.Step.{IsNumbered, runs}
 
 -- two rows entered at different events, and are of different orders
 pub record AreDifferent (x y : Row) : Type 0 where
@@ -47,3 +49,15 @@ pub record AreSound (events : ℕ) (orders : List Order) (own others : List Pric
   pub others_differ : AllDiffer others
   pub differ : AllByRecursion (λ x. IsNew x.row others) own
   pub sound : (k : ℕ) (order : Order) → slice_get orders k ≡ Some order → IsSoundOrder order
+
+-- a state after so many events: its rows and orders agree, and no event made more than one order
+pub record IsSound (events : ℕ) (s : State) : Type 0 where
+  pub rows : AreSound events s.orders s.buys s.sells
+  pub few : length s.orders ≤ events
+
+-- after every history whose events are numbered, the book is sound
+abbrev pub BookIsSound : Type 0
+BookIsSound =
+    (markets tick : ℕ) (history : List Event)
+    → IsNumbered history
+    → IsSound (length history) (runs markets tick history).state
