@@ -28,7 +28,7 @@ use Rattle.market_laws.proofs.Differing.{IsSameOrDiffers, takes_differ, IsWithin
 abbrev pub traded_in : ℕ → List Fill → ℕ
 traded_in k fills = sum_by (λ f. cond (f.taker.order == k) f.quantity 0 + cond (f.contra.order == k) f.quantity 0) fills
 
-traded_cons : (k : ℕ) (f : Fill) (fs : List Fill) → traded_in k (f ∷ fs) ≡ cond (f.taker.order == k) f.quantity 0 + cond (f.contra.order == k) f.quantity 0 + traded_in k fs
+pub traded_cons : (k : ℕ) (f : Fill) (fs : List Fill) → traded_in k (f ∷ fs) ≡ cond (f.taker.order == k) f.quantity 0 + cond (f.contra.order == k) f.quantity 0 + traded_in k fs
 traded_cons k f fs = sum_by-cons (λ (g : Fill). cond (g.taker.order == k) g.quantity 0 + cond (g.contra.order == k) g.quantity 0) f fs
 
 -- an order with more shares traded, and else as it was in what matters here
@@ -46,7 +46,7 @@ pub record FoundAfter (orders : List Order) (k shares : ℕ) (before : Order) : 
 some_order : (x y : Order) → Some x ≡ Some y → x ≡ y
 some_order x y e = cc
 
-changed_found : (fill : Fill) (j : ℕ) (orders : List Order) (k : ℕ) (order : Order) → slice_get orders k ≡ Some order → FoundAfter (changed_at (order_after fill) j orders) k (cond (j == k) fill.quantity 0) order
+pub changed_found : (fill : Fill) (j : ℕ) (orders : List Order) (k : ℕ) (order : Order) → slice_get orders k ≡ Some order → FoundAfter (changed_at (order_after fill) j orders) k (cond (j == k) fill.quantity 0) order
 unfolding order_after
 changed_found fill j [] k order h = cc
 changed_found fill zero (o ∷ os) zero order h =
@@ -63,7 +63,7 @@ changed_found fill (suc j) (o ∷ os) (suc k) order h =
     let more = changed_found fill j os k order h in
     rw (e, changed_next (order_after fill) j o os) (record { order = more.order; is = more.is; adds = more.adds })
 
-fill_found : (fill : Fill) (orders : List Order) (k : ℕ) (order : Order) → slice_get orders k ≡ Some order → FoundAfter (orders_after fill orders) k (cond (fill.taker.order == k) fill.quantity 0 + cond (fill.contra.order == k) fill.quantity 0) order
+pub fill_found : (fill : Fill) (orders : List Order) (k : ℕ) (order : Order) → slice_get orders k ≡ Some order → FoundAfter (orders_after fill orders) k (cond (fill.taker.order == k) fill.quantity 0 + cond (fill.contra.order == k) fill.quantity 0) order
 unfolding orders_after
 fill_found fill orders k order h =
     let one = changed_found fill fill.taker.order orders k order h in
@@ -111,6 +111,11 @@ none_before fills orders k h =
     past_of [] j h = omega arith
     past_of (o ∷ os) zero h = cc
     past_of (o ∷ os) (suc j) h = let more = past_of os j h in omega arith
+
+-- so after one trade
+pub none_after_fill : (fill : Fill) (orders : List Order) (k : ℕ) → slice_get orders k ≡ None → slice_get (orders_after fill orders) k ≡ None
+unfolding orders_after_all
+none_after_fill fill orders k h = none_before (fill ∷ []) orders k h
 
 -- ---- one walk's trades
 

@@ -1,5 +1,6 @@
 pub mod Admitting
 pub mod Agreeing
+pub mod Allowing
 pub mod Backing
 pub mod Bounding
 pub mod Differing

@@ -1,4 +1,5 @@
 //! Laws of the orders of a book.
+ghost use Rattle.market_laws.specs.Fitting.{QuoteTradesFit, RowsArePlaced};
 ghost use Rattle.market_laws.specs.Orders.{CumIsSumOfTrades};
 ghost use Rattle.market_laws.specs.Sound.{BookIsSound};
 
@@ -16,4 +17,20 @@ pub fn cum_is_sum_of_trades()
 // shares by a Replace, two rows of one order, and a row that forgets that its order has traded.
 pub fn book_is_sound()
     ensures { BookIsSound }
+{}
+
+/// After every history each row is on its list's side, its order is of that side too, and its value is the one that the
+/// present national quote gives it.
+// Rules out a buy among the sells, a Replace that turns an order's side, and a row that keeps the price of an earlier
+// quote.
+pub fn rows_are_placed()
+    ensures { RowsArePlaced }
+{}
+
+/// The trades that any new national quote makes after a history fit: both orders of each are there, and have its shares
+/// left when it is made.
+// Rules out a CumQty that passes the quantity between two trades of one event, and a trade with an order that is not
+// there.
+pub fn quote_trades_fit()
+    ensures { QuoteTradesFit }
 {}
