@@ -11,6 +11,7 @@ use Rattle.venue_words.specs.Best.{best_of}
 use Rattle.eager_meaning.specs.declared.notice.Notice.{Notice}
 use Rattle.eager_meaning.specs.State.{State, Outcome}
 use Rattle.eager_meaning.specs.Step.{Run, runs, step, outcome_of, reports_from}
+use Rattle.market_laws.specs.Fitting.{RowsArePlaced}
 use Rattle.market_laws.specs.Placed.{HasPlacedRows}
 use Rattle.market_laws.specs.Trading.{shares_on, shares_traded, BoughtSharesAreSold, IsPricedWithin, TradesAreWithinQuote}
 use Rattle.market_laws.proofs.Growing.{runs_append}
@@ -43,6 +44,9 @@ runs_even markets tick history = all_even tick _ history (record { rows = record
 
 pub bought_are_sold : BoughtSharesAreSold
 bought_are_sold markets tick history = (runs_even markets tick history).same
+
+pub rows_placed : RowsArePlaced
+rows_placed markets tick history = (runs_even markets tick history).rows
 
 state_after : (markets tick : ℕ) (history : List Event) (event : Event) → (runs markets tick (history ++ event ∷ [])).state ≡ (outcome_of tick event.number event.command (runs markets tick history).state).state
 unfolding step

@@ -28,7 +28,7 @@ in_priority_all P rows a = sorted_all P [] _ tt (all_filter P _ rows a)
 abbrev pub IsMet : (Priced → Type 0) → Priced → Take → Type 0
 IsMet P taker take = P take.contra × (crosses taker take.contra ≡ true)
 
-walk_all : (P : Priced → Type 0) (taker : Priced) (left : ℕ) (contras : List Priced) → AllByRecursion P contras → AllByRecursion (IsMet P taker) (walk taker left contras)
+pub walk_all : (P : Priced → Type 0) (taker : Priced) (left : ℕ) (contras : List Priced) → AllByRecursion P contras → AllByRecursion (IsMet P taker) (walk taker left contras)
 unfolding walk
 walk_all P taker left [] a = tt
 walk_all P taker left (contra ∷ contras) a =

@@ -1,9 +1,36 @@
 //! Laws of the orders of a book.
+ghost use Rattle.market_laws.specs.Fitting.{QuoteTradesFit, RowsArePlaced};
 ghost use Rattle.market_laws.specs.Orders.{CumIsSumOfTrades};
+ghost use Rattle.market_laws.specs.Sound.{BookIsSound};
 
 /// Each order's CumQty is the sum of the trades that the reports tell of it, by the event of its New.
 // Rules out a trade that is told and not added to its order, one that is added and not told, a Replace that loses or
 // gains traded shares, and two orders that reports can't tell apart.
 pub fn cum_is_sum_of_trades()
     ensures { CumIsSumOfTrades }
+{}
+
+/// After every history the rows and the orders of the book agree: no two rows are of one event or of one order; each row
+/// has an order of its number and member, and shares left, which with the order's CumQty are its quantity; no order
+/// traded more than its quantity; and there are no more orders than events.
+// Rules out a trade of shares that an order does not have, a row that is filled and stays, one whose order lost or gained
+// shares by a Replace, two rows of one order, and a row that forgets that its order has traded.
+pub fn book_is_sound()
+    ensures { BookIsSound }
+{}
+
+/// After every history each row is on its list's side, its order is of that side too, and its value is the one that the
+/// present national quote gives it.
+// Rules out a buy among the sells, a Replace that turns an order's side, and a row that keeps the price of an earlier
+// quote.
+pub fn rows_are_placed()
+    ensures { RowsArePlaced }
+{}
+
+/// The trades that any new national quote makes after a history fit: both orders of each are there, and have its shares
+/// left when it is made.
+// Rules out a CumQty that passes the quantity between two trades of one event, and a trade with an order that is not
+// there.
+pub fn quote_trades_fit()
+    ensures { QuoteTradesFit }
 {}

@@ -1,0 +1,39 @@
+-- Trades that fit the orders to which they are added.
+use Rattle.std.specs.Prelude.{◌≡◌, ℕ, ◌+◌, ◌≤◌, List, [], ◌∷◌, slice_get, Some}
+use Rattle.venue_words.specs.declared.command.Event.{Event}
+use Rattle.venue_words.specs.declared.price.Best.{Best}
+use Rattle.venue_words.specs.Retime.{reprice}
+use Rattle.eager_meaning.specs.declared.order.Order.{Order}
+use Rattle.eager_meaning.specs.declared.trade.Fill.{Fill}
+use Rattle.eager_meaning.specs.Orders.{changed_at}
+use Rattle.eager_meaning.specs.Trades.{order_after, orders_after}
+use Rattle.eager_meaning.specs.Recheck.{recheck}
+use Rattle.eager_meaning.specs.Step.{IsNumbered, runs}
+use Rattle.market_laws.specs.Placed.{HasPlacedRows}
+
+-- the order with this number is there, and has the shares of a trade left
+pub record TradeFits (fill : Fill) (number : ℕ) (orders : List Order) : Type 0 where
+  pub order : Order
+  pub is : slice_get orders number ≡ Some order
+  pub most : order.cum + fill.quantity ≤ order.quantity
+
+-- so for both orders of each trade, one trade after the other
+abbrev pub FillsFit : List Fill → List Order → Type 0
+FillsFit [] orders = Unit {0}
+FillsFit (fill ∷ fills) orders =
+    TradeFits fill fill.taker.order orders
+    × TradeFits fill fill.contra.order (changed_at (order_after fill) fill.taker.order orders)
+    × FillsFit fills (orders_after fill orders)
+
+-- after every history whose events are numbered: the trades that any new national quote makes fit
+abbrev pub QuoteTradesFit : Type 0
+QuoteTradesFit =
+    (markets tick : ℕ) (history : List Event)
+    → IsNumbered history
+    → (event : ℕ) (best : Best)
+    → let s = (runs markets tick history).state in
+    FillsFit (recheck (reprice event best s.buys) (reprice event best s.sells)).fills s.orders
+
+-- after every history, each row is on its list's side, as its order is, and is priced by the national quote
+abbrev pub RowsArePlaced : Type 0
+RowsArePlaced = (markets tick : ℕ) (history : List Event) → HasPlacedRows (runs markets tick history).state
