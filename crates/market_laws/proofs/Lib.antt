@@ -18,4 +18,5 @@ pub mod Siding
 pub mod Summing
 pub mod Sweeping
 pub mod Telling
+pub mod Valuing
 pub mod Walking

@@ -9,7 +9,7 @@ use Rattle.eager_meaning.specs.Orders.{changed_at}
 use Rattle.eager_meaning.specs.Trades.{order_after, orders_after}
 use Rattle.eager_meaning.specs.Recheck.{recheck}
 use Rattle.eager_meaning.specs.Step.{IsNumbered, runs}
-use Rattle.market_laws.specs.Placed.{HasPlacedRows}
+use Rattle.market_laws.specs.Placed.{IsPlacedBook}
 
 -- the order with this number is there, and has the shares of a trade left
 pub record TradeFits (fill : Fill) (number : ℕ) (orders : List Order) : Type 0 where
@@ -36,4 +36,4 @@ QuoteTradesFit =
 
 -- after every history, each row is on its list's side, as its order is, and is priced by the national quote
 abbrev pub RowsArePlaced : Type 0
-RowsArePlaced = (markets tick : ℕ) (history : List Event) → HasPlacedRows (runs markets tick history).state
+RowsArePlaced = (markets tick : ℕ) (history : List Event) → IsPlacedBook (runs markets tick history).state

@@ -20,9 +20,10 @@ pub fn book_is_sound()
 {}
 
 /// After every history each row is on its list's side, its order is of that side too, and its value is the one that the
-/// present national quote gives it.
-// Rules out a buy among the sells, a Replace that turns an order's side, and a row that keeps the price of an earlier
-// quote.
+/// present national quote gives it. The sum of price times quantity over an order's trades is at most `PRICE_END` for
+/// each share of its CumQty.
+// Rules out a buy among the sells, a Replace that turns an order's side, a row that keeps the price of an earlier quote,
+// and an average price above the greatest price.
 pub fn rows_are_placed()
     ensures { RowsArePlaced }
 {}
