@@ -133,8 +133,8 @@ price_bound true true m far cap v l h =
     let less : min m far ≤ PRICE_END = below_end _ l in
     omega arith
   where
-  below_end : (n : ℕ) → nat_lt n PRICE_END ≡ true → n ≤ PRICE_END
-  below_end n e = grind (arith, nat_tests)
+    below_end : (n : ℕ) → nat_lt n PRICE_END ≡ true → n ≤ PRICE_END
+    below_end n e = grind (arith, nat_tests)
 price_bound true false m far cap v l h = cc
 price_bound false high m far cap v l h = cc
 
@@ -154,6 +154,7 @@ shown_most best x p = go x.value refl where
   side_most : (side : Side) (v : ℕ) → v ≤ PRICE_END → price_of side v ≤ PRICE_END
   side_most Buy v h = h
   side_most Sell v h = omega arith
+
   go : (value : Option ℕ) → x.value ≡ value → unwrap_or (option_map (price_of x.row.key.side) value) 0 ≤ PRICE_END
   go None e = omega arith
   go (Some v) e = side_most x.row.key.side v (row_most best x.row v (sym p ∙ e))

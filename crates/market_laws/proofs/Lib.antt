@@ -3,6 +3,7 @@ pub mod Agreeing
 pub mod Allowing
 pub mod Backing
 pub mod Bounding
+pub mod Counting
 pub mod Differing
 pub mod Growing
 pub mod Lasting

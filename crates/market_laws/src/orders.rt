@@ -12,7 +12,7 @@ pub fn cum_is_sum_of_trades()
 
 /// After every history the rows and the orders of the book agree: no two rows are of one event or of one order; each row
 /// has an order of its number and member, and shares left, which with the order's CumQty are its quantity; no order
-/// traded more than its quantity; and there are no more orders than events.
+/// traded more than its quantity; and there are no more orders than events, and no more rows than orders.
 // Rules out a trade of shares that an order does not have, a row that is filled and stays, one whose order lost or gained
 // shares by a Replace, two rows of one order, and a row that forgets that its order has traded.
 pub fn book_is_sound()
