@@ -1,6 +1,7 @@
 pub mod Admitting
 pub mod Agreeing
 pub mod Allowing
+pub mod Arriving
 pub mod Backing
 pub mod Bounding
 pub mod Counting

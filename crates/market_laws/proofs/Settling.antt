@@ -115,11 +115,11 @@ quote_fair event market quote s rows =
 
 -- ---- orders that enter
 
-own_placed : (side : Side) (s : State) → IsPlacedBook s → AllByRecursion (IsPlaced (best_of s.markets) s.orders side) (own_rows side s)
+pub own_placed : (side : Side) (s : State) → IsPlacedBook s → AllByRecursion (IsPlaced (best_of s.markets) s.orders side) (own_rows side s)
 own_placed Buy s rows = rows.buys
 own_placed Sell s rows = rows.sells
 
-other_placed : (side : Side) (s : State) → IsPlacedBook s → AllByRecursion (IsPlaced (best_of s.markets) s.orders (opposite side)) (other_rows side s)
+pub other_placed : (side : Side) (s : State) → IsPlacedBook s → AllByRecursion (IsPlaced (best_of s.markets) s.orders (opposite side)) (other_rows side s)
 other_placed Buy s rows = rows.sells
 other_placed Sell s rows = rows.buys
 
@@ -136,7 +136,7 @@ pub record IsFairlyEntered (best : Best) (orders : List Order) (side : Side) (e 
   pub others : AllByRecursion (IsPlaced best orders (opposite side)) e.others
   pub fills : AllByRecursion (IsFairFill best orders) e.fills
 
-entered_fair : (best : Best) (orders : List Order) (side : Side) (taker : Priced) (immediate : Bool) (own others : List Priced) → IsPlaced best orders side taker → AllByRecursion (IsPlaced best orders side) own → AllByRecursion (IsPlaced best orders (opposite side)) others → IsFairlyEntered best orders side (entered taker immediate own others)
+pub entered_fair : (best : Best) (orders : List Order) (side : Side) (taker : Priced) (immediate : Bool) (own others : List Priced) → IsPlaced best orders side taker → AllByRecursion (IsPlaced best orders side) own → AllByRecursion (IsPlaced best orders (opposite side)) others → IsFairlyEntered best orders side (entered taker immediate own others)
 unfolding entered
 entered_fair best orders side taker immediate own others p a b =
     let left : List Priced = unfilled (row_after (total_of (takes_of taker others)) taker ∷ []) in

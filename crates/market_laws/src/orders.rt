@@ -1,5 +1,5 @@
 //! Laws of the orders of a book.
-ghost use Rattle.market_laws.specs.Fitting.{QuoteTradesFit, RowsArePlaced};
+ghost use Rattle.market_laws.specs.Fitting.{NewTradesFit, QuoteTradesFit, RowsArePlaced};
 ghost use Rattle.market_laws.specs.Orders.{CumIsSumOfTrades};
 ghost use Rattle.market_laws.specs.Sound.{BookIsSound};
 
@@ -34,4 +34,11 @@ pub fn rows_are_placed()
 // there.
 pub fn quote_trades_fit()
     ensures { QuoteTradesFit }
+{}
+
+/// The trades of a New that enters at the next event fit: both orders of each are there, and have its shares left when it
+/// is made.
+// Rules out a New that trades more than its quantity, and one that takes more from a resting order than it has left.
+pub fn new_trades_fit()
+    ensures { NewTradesFit }
 {}
