@@ -77,7 +77,7 @@ entered_sound n orders taker immediate own others h mine fresh a =
 abbrev pub RowsAgree : ℕ → State → Type 0
 RowsAgree n s = AreSound n s.orders s.buys s.sells
 
-own_first : (n : ℕ) (side : Side) (s : State) → RowsAgree n s → AreSound n s.orders (own_rows side s) (other_rows side s)
+pub own_first : (n : ℕ) (side : Side) (s : State) → RowsAgree n s → AreSound n s.orders (own_rows side s) (other_rows side s)
 own_first n Buy s a = a
 own_first n Sell s a = turned n s.orders s.buys s.sells a
 
@@ -89,11 +89,11 @@ orders_put : (side : Side) (own others : List Priced) (s : State) → (with_rows
 orders_put Buy own others s = refl
 orders_put Sell own others s = refl
 
-new_to_own : (side : Side) (row : Row) (s : State) → IsNew row s.buys → IsNew row s.sells → IsNew row (own_rows side s)
+pub new_to_own : (side : Side) (row : Row) (s : State) → IsNew row s.buys → IsNew row s.sells → IsNew row (own_rows side s)
 new_to_own Buy row s b a = b
 new_to_own Sell row s b a = a
 
-new_to_others : (side : Side) (row : Row) (s : State) → IsNew row s.buys → IsNew row s.sells → IsNew row (other_rows side s)
+pub new_to_others : (side : Side) (row : Row) (s : State) → IsNew row s.buys → IsNew row s.sells → IsNew row (other_rows side s)
 new_to_others Buy row s b a = a
 new_to_others Sell row s b a = b
 
@@ -133,13 +133,13 @@ later n s a =
 
 -- ---- a New
 
-more_orders : (n : ℕ) (orders : List Order) (order : Order) (row : Row) → IsLiveRow n orders row → IsLiveRow n (orders ++ order ∷ []) row
+pub more_orders : (n : ℕ) (orders : List Order) (order : Order) (row : Row) → IsLiveRow n orders row → IsLiveRow n (orders ++ order ∷ []) row
 more_orders n orders order row l =
     let h = l.held in
     record { held = record { order = h.order; is = get_kept orders order row.order h.order h.is; member = h.member; quantity = h.quantity; traded = h.traded; entered = h.entered }; left = l.left }
 
 -- a row of the next event and of the next order is new
-next_is_new : (n : ℕ) (orders : List Order) (row : Row) (rows : List Priced) → row.entry ≡ n + 1 → row.order ≡ length orders → AllByRecursion (λ x. IsLiveRow n orders x.row) rows → IsNew row rows
+pub next_is_new : (n : ℕ) (orders : List Order) (row : Row) (rows : List Priced) → row.entry ≡ n + 1 → row.order ≡ length orders → AllByRecursion (λ x. IsLiveRow n orders x.row) rows → IsNew row rows
 next_is_new n orders row rows e o a =
     all_weaken (λ x. IsLiveRow n orders x.row) (λ x. AreDifferent row x.row)
     (λ x l. record {

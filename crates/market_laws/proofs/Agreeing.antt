@@ -10,6 +10,7 @@ use Rattle.eager_meaning.specs.Orders.{live_named, is_used, known_of}
 use Rattle.eager_meaning.specs.Verdict.{verdict}
 use Rattle.eager_meaning.specs.Step.{Run, runs, step, on_status, outcome_of}
 use Rattle.market_laws.specs.Sound.{IsSoundOrder, IsSound, BookIsSound}
+use Rattle.market_laws.proofs.Counting.{outcome_fewer}
 use Rattle.market_laws.proofs.Numbering.{kept_by_all, numbered_from_none}
 use Rattle.market_laws.proofs.Admitting.{RowsAgree, later, new_agrees, new_counts, quote_agrees, quote_counts, cancel_agrees, cancel_counts}
 use Rattle.market_laws.proofs.Replacing.{replace_agrees, replace_counts}
@@ -42,6 +43,7 @@ step_sound tick n run event number is =
     record {
       rows = outcome_agrees tick n event.number event.command run.state number is.rows;
       few = (let most = outcome_counts tick event.number event.command run.state in let few = is.few in omega arith);
+      fewer = (let rows = outcome_fewer tick event.number event.command run.state in let fewer = is.fewer in omega (arith, rows, fewer));
     }
 
 no_order : (k : ℕ) (order : Order) → slice_get [] k ≡ Some order → IsSoundOrder order
@@ -52,6 +54,6 @@ unfolding runs
 book_is_sound markets tick history numbered =
     let first : Run = record { state = initial markets; reports = [] } in
     let all = kept_by_all tick (λ n run. IsSound n run.state) (step_sound tick) 0 first history (numbered_from_none history numbered)
-    (record { rows = record { own_live = tt; others_live = tt; own_differ = tt; others_differ = tt; differ = tt; sound = no_order }; few = omega arith }) in
+    (record { rows = record { own_live = tt; others_live = tt; own_differ = tt; others_differ = tt; differ = tt; sound = no_order }; few = omega arith; fewer = omega arith }) in
     let count : 0 + length history ≡ length history = omega arith in
     subst (λ (n : ℕ). IsSound n (fold (step tick) first history).state) count all

@@ -30,14 +30,14 @@ some_order : (x y : Order) → Some x ≡ Some y → x ≡ y
 some_order x y e = cc
 
 -- no order trades more than it has left
-abbrev AllFit : List Fill → List Order → Type 0
+abbrev pub AllFit : List Fill → List Order → Type 0
 AllFit fills orders = (k : ℕ) (order : Order) → slice_get orders k ≡ Some order → order.cum + traded_in k fills ≤ order.quantity
 
 -- both orders of a trade are there
-record AreThere (orders : List Order) (fill : Fill) : Type 0 where
-  side : Side
-  taker : side_at orders fill.taker.order ≡ Some side
-  contra : side_at orders fill.contra.order ≡ Some (opposite side)
+pub record AreThere (orders : List Order) (fill : Fill) : Type 0 where
+  pub side : Side
+  pub taker : side_at orders fill.taker.order ≡ Some side
+  pub contra : side_at orders fill.contra.order ≡ Some (opposite side)
 
 -- an order that has a side is there
 record IsThere (orders : List Order) (k : ℕ) : Type 0 where
@@ -68,7 +68,7 @@ rest_fit fill fills orders h k after is = go (slice_get orders k) refl where
 yes : (k q : ℕ) → cond (k == k) q 0 ≡ q
 yes k q = let e : (k == k) ≡ true = eq-eqb _ _ refl in rw e refl
 
-fills_fit : (fills : List Fill) (orders : List Order) → AllByRecursion (AreThere orders) fills → AllFit fills orders → FillsFit fills orders
+pub fills_fit : (fills : List Fill) (orders : List Order) → AllByRecursion (AreThere orders) fills → AllFit fills orders → FillsFit fills orders
 fills_fit [] orders a h = tt
 fills_fit (fill ∷ fills) orders a h =
     let taker = there orders fill.taker.order a.0.side a.0.taker in
@@ -86,7 +86,7 @@ fills_fit (fill ∷ fills) orders a h =
     )
 
 -- what the orders after all trades say of those before
-fit_from : (orders : List Order) (fills : List Fill) → ((k : ℕ) (order : Order) → slice_get (orders_after_all fills orders) k ≡ Some order → IsSoundOrder order) → AllFit fills orders
+pub fit_from : (orders : List Order) (fills : List Fill) → ((k : ℕ) (order : Order) → slice_get (orders_after_all fills orders) k ≡ Some order → IsSoundOrder order) → AllFit fills orders
 fit_from orders fills sound k order is =
     let found = found_after fills orders k order is in
     let good = sound k found.order found.is in

@@ -12,7 +12,7 @@ use Rattle.eager_meaning.specs.declared.notice.Notice.{Notice}
 use Rattle.eager_meaning.specs.State.{State, Outcome}
 use Rattle.eager_meaning.specs.Step.{Run, runs, step, outcome_of, reports_from}
 use Rattle.market_laws.specs.Fitting.{RowsArePlaced}
-use Rattle.market_laws.specs.Placed.{HasPlacedRows}
+use Rattle.market_laws.specs.Placed.{AreWorthAtMost, IsPlacedBook}
 use Rattle.market_laws.specs.Trading.{shares_on, shares_traded, BoughtSharesAreSold, IsPricedWithin, TradesAreWithinQuote}
 use Rattle.market_laws.proofs.Growing.{runs_append}
 use Rattle.market_laws.proofs.Replying.{told_by}
@@ -21,7 +21,7 @@ use Rattle.market_laws.proofs.Settling.{outcome_fair}
 
 -- a run whose rows are in place, and which told as many shares bought as sold
 record IsEven (run : Run) : Type 0 where
-  rows : HasPlacedRows run.state
+  rows : IsPlacedBook run.state
   same : shares_traded Buy run.reports ≡ shares_traded Sell run.reports
 
 step_even : (tick : ℕ) (run : Run) (event : Event) → IsEven run → IsEven (step tick run event)
@@ -38,9 +38,12 @@ all_even : (tick : ℕ) (run : Run) (events : List Event) → IsEven run → IsE
 all_even tick run [] is = is
 all_even tick run (event ∷ events) is = all_even tick (step tick run event) events (step_even tick run event is)
 
+no_worth : AreWorthAtMost []
+no_worth k order e = cc
+
 runs_even : (markets tick : ℕ) (history : List Event) → IsEven (runs markets tick history)
 unfolding runs
-runs_even markets tick history = all_even tick _ history (record { rows = record { buys = tt; sells = tt }; same = refl })
+runs_even markets tick history = all_even tick _ history (record { rows = record { buys = tt; sells = tt; worth = no_worth }; same = refl })
 
 pub bought_are_sold : BoughtSharesAreSold
 bought_are_sold markets tick history = (runs_even markets tick history).same

@@ -1,8 +1,10 @@
 pub mod Admitting
 pub mod Agreeing
 pub mod Allowing
+pub mod Arriving
 pub mod Backing
 pub mod Bounding
+pub mod Counting
 pub mod Differing
 pub mod Growing
 pub mod Lasting
@@ -18,4 +20,5 @@ pub mod Siding
 pub mod Summing
 pub mod Sweeping
 pub mod Telling
+pub mod Valuing
 pub mod Walking

@@ -1,9 +1,10 @@
 -- Orders that meet are of opposite sides, and trade within the quote.
-use Rattle.std.proofs.Common.{◌≡◌, ℕ, true, false, cond, List, [], ◌∷◌, Option, Some, None, refl, ap, arith}
+use Rattle.std.proofs.Common.{◌≡◌, ℕ, ◌≤◌, true, false, cond, List, [], ◌∷◌, Option, Some, None, refl, ap, arith}
 use Rattle.std.specs.Prelude.{nat_eq}
 use Rattle.std.specs.Option.{option_eq}
 use Rattle.std.specs.List.{AllByRecursion}
 use Rattle.std.proofs.lemmas.Bool.Decides.{nat_tests}
+use Rattle.venue_words.specs.declared.price.TheConstants.{PRICE_END}
 use Rattle.venue_words.specs.declared.price.Best.{Best}
 use Rattle.venue_words.specs.declared.price.Side.{Side}
 use Rattle.venue_words.specs.declared.price.Side.TheVariants.{Buy, Sell}
@@ -22,7 +23,7 @@ use Rattle.market_laws.specs.Placed.{side_at, opposite, IsOnSide, IsPlaced}
 use Rattle.market_laws.specs.Trading.{IsWithinQuote}
 use Rattle.market_laws.proofs.Lists.{all_map}
 use Rattle.market_laws.proofs.Walking.{IsMet, takes_all, rows_after_all, in_priority_all}
-use Rattle.market_laws.proofs.Bounding.{price_within}
+use Rattle.market_laws.proofs.Bounding.{price_within, price_most}
 
 -- both orders of a trade are there, of opposite sides, and its price is within the quote
 pub record IsFairFill (best : Best) (orders : List Order) (fill : Fill) : Type 0 where
@@ -30,6 +31,7 @@ pub record IsFairFill (best : Best) (orders : List Order) (fill : Fill) : Type 0
   pub taker : side_at orders fill.taker.order ≡ Some side
   pub contra : side_at orders fill.contra.order ≡ Some (opposite side)
   pub price : IsWithinQuote best fill.price
+  pub most : fill.price ≤ PRICE_END
 
 pub stays_placed : (best : Best) (orders : List Order) (side : Side) (n : ℕ) (x : Priced) → IsPlaced best orders side x → IsPlaced best orders side (row_after n x)
 unfolding row_after value_under
@@ -44,6 +46,7 @@ fills_fair best orders side taker others p a =
       taker = p.on.order;
       contra = met.0.on.order;
       price = price_within best side taker take.contra p.on.key met.0.on.key p.priced met.0.priced met.1;
+      most = price_most best taker take.contra p.priced met.0.priced;
     })
     (takes_of taker others) (takes_all (IsPlaced best orders (opposite side)) taker others a)
 

@@ -1,5 +1,5 @@
 -- Each event keeps the rows in place, and its trades are fair.
-use Rattle.std.proofs.Common.{◌≡◌, ℕ, Bool, true, false, cond, ◌&&◌, List, [], ◌∷◌, ◌++◌, Option, Some, None, refl, ap, sym, ◌∙◌, subst, arith}
+use Rattle.std.proofs.Common.{◌≡◌, ℕ, ◌*◌, ◌≤◌, Bool, true, false, cond, ◌&&◌, List, [], ◌∷◌, ◌++◌, Option, Some, None, refl, ap, sym, ◌∙◌, subst, arith}
 use Rattle.std.specs.Prelude.{option_map, ◌==◌, nat_lt}
 use Rattle.std.specs.Option.{option_map_or}
 use Rattle.std.specs.List.{AllByRecursion}
@@ -8,6 +8,7 @@ use Rattle.venue_words.specs.declared.command.Command.{Command}
 use Rattle.venue_words.specs.declared.command.Command.TheVariants.{Quote, New, Cancel, Replace, Status as Request}
 use Rattle.venue_words.specs.declared.command.Rule.{Rule}
 use Rattle.venue_words.specs.declared.command.Terms.{Terms}
+use Rattle.venue_words.specs.declared.price.TheConstants.{PRICE_END}
 use Rattle.venue_words.specs.declared.price.Best.{Best}
 use Rattle.venue_words.specs.declared.price.Side.{Side}
 use Rattle.venue_words.specs.declared.price.Side.TheVariants.{Buy, Sell}
@@ -34,22 +35,23 @@ use Rattle.eager_meaning.specs.Orders.{live_named, is_used, known_of, order_name
 use Rattle.eager_meaning.specs.Terms.{row_of}
 use Rattle.eager_meaning.specs.Verdict.{verdict}
 use Rattle.eager_meaning.specs.Step.{view_now, on_status, outcome_of}
-use Rattle.market_laws.specs.Placed.{side_at, opposite, IsPlaced, HasPlacedRows}
+use Rattle.market_laws.specs.Placed.{side_at, opposite, IsPlaced, AreWorthAtMost, IsPlacedBook}
 use Rattle.market_laws.specs.Trading.{shares_on, IsPricedWithin}
 use Rattle.market_laws.proofs.Lists.{all_filter, all_map}
 use Rattle.market_laws.proofs.Siding.{side_changed, sides_after_all, side_kept, side_of_last}
 use Rattle.market_laws.proofs.Meeting.{IsFairFill, stays_placed, fills_fair, left_placed, recheck_fair, same_option, reprice_places, same_sides}
 use Rattle.market_laws.proofs.Telling.{shares_told, IsNoTrade, none_told, none_priced, left_no_trade, trades_even, trades_priced}
+use Rattle.market_laws.proofs.Valuing.{each_kept, worth_after_all, worth_next}
 use Rattle.market_laws.proofs.Living.{live_found, same_side, key_side}
 
 -- an outcome that keeps the rows in place, and tells as many shares bought as sold, at prices within the quote
 pub record IsFair (outcome : Outcome) : Type 0 where
-  pub state : HasPlacedRows outcome.state
+  pub state : IsPlacedBook outcome.state
   pub even : shares_told Buy outcome.notices ≡ shares_told Sell outcome.notices
   pub priced : AllByRecursion (λ notice. IsPricedWithin (best_of outcome.state.markets) notice.kind) outcome.notices
 
 -- one notice of no trade
-one_fair : (member : ℕ) (kind : Kind) (s : State) → IsNoTrade kind → HasPlacedRows s → IsFair (with_notice member kind s)
+one_fair : (member : ℕ) (kind : Kind) (s : State) → IsNoTrade kind → IsPlacedBook s → IsFair (with_notice member kind s)
 one_fair member kind s plain rows =
     record {
       state = rows;
@@ -62,14 +64,14 @@ one_fair member kind s plain rows =
 after_trades : (best : Best) (orders : List Order) (fills : List Fill) (side : Side) (rows : List Priced) → AllByRecursion (IsPlaced best orders side) rows → AllByRecursion (IsPlaced best (orders_after_all fills orders) side) rows
 after_trades best orders fills side rows a = same_sides best orders (orders_after_all fills orders) side (λ j s h. sides_after_all fills orders j ∙ h) rows a
 
-requote_fair : (event : ℕ) (old : Best) (s : State) → AllByRecursion (IsPlaced old s.orders Buy) s.buys → AllByRecursion (IsPlaced old s.orders Sell) s.sells → IsFair (requote event s)
+requote_fair : (event : ℕ) (old : Best) (s : State) → AllByRecursion (IsPlaced old s.orders Buy) s.buys → AllByRecursion (IsPlaced old s.orders Sell) s.sells → AreWorthAtMost s.orders → IsFair (requote event s)
 unfolding requote
-requote_fair event old s b a =
+requote_fair event old s b a w =
     let best : Best = best_of s.markets in
     let fair = recheck_fair best s.orders (reprice event best s.buys) (reprice event best s.sells) (reprice_places event old best s.orders Buy s.buys b) (reprice_places event old best s.orders Sell s.sells a) in
     let matched : Matched = recheck (reprice event best s.buys) (reprice event best s.sells) in
     record {
-      state = record { buys = after_trades best s.orders matched.fills Buy matched.buys fair.buys; sells = after_trades best s.orders matched.fills Sell matched.sells fair.sells };
+      state = record { buys = after_trades best s.orders matched.fills Buy matched.buys fair.buys; sells = after_trades best s.orders matched.fills Sell matched.sells fair.sells; worth = worth_after_all best s.orders matched.fills fair.fills s.orders w };
       even = trades_even best s.orders matched.fills fair.fills s.orders (λ j. refl);
       priced = trades_priced best s.orders matched.fills fair.fills s.orders;
     }
@@ -92,7 +94,7 @@ same_quote x y h =
     let offer = same_option x.offer y.offer parts.1 in
     best_is y.bid y.offer x.bid x.offer bid offer
 
-quote_fair : (event market : ℕ) (quote : Best) (s : State) → HasPlacedRows s → IsFair (on_quote event market quote s)
+quote_fair : (event market : ℕ) (quote : Best) (s : State) → IsPlacedBook s → IsFair (on_quote event market quote s)
 unfolding on_quote
 quote_fair event market quote s rows =
     let next : State = with_quote market quote s in
@@ -103,26 +105,27 @@ quote_fair event market quote s rows =
             state = record {
               buys = subst (λ (best : Best). AllByRecursion (IsPlaced best s.orders Buy) s.buys) same rows.buys;
               sells = subst (λ (best : Best). AllByRecursion (IsPlaced best s.orders Sell) s.sells) same rows.sells;
+              worth = rows.worth;
             };
             even = refl;
             priced = tt;
           }
-      | false ↦ λ e. requote_fair event (best_of s.markets) next rows.buys rows.sells
+      | false ↦ λ e. requote_fair event (best_of s.markets) next rows.buys rows.sells rows.worth
     ]) refl
 
 -- ---- orders that enter
 
-own_placed : (side : Side) (s : State) → HasPlacedRows s → AllByRecursion (IsPlaced (best_of s.markets) s.orders side) (own_rows side s)
+pub own_placed : (side : Side) (s : State) → IsPlacedBook s → AllByRecursion (IsPlaced (best_of s.markets) s.orders side) (own_rows side s)
 own_placed Buy s rows = rows.buys
 own_placed Sell s rows = rows.sells
 
-other_placed : (side : Side) (s : State) → HasPlacedRows s → AllByRecursion (IsPlaced (best_of s.markets) s.orders (opposite side)) (other_rows side s)
+pub other_placed : (side : Side) (s : State) → IsPlacedBook s → AllByRecursion (IsPlaced (best_of s.markets) s.orders (opposite side)) (other_rows side s)
 other_placed Buy s rows = rows.sells
 other_placed Sell s rows = rows.buys
 
-put_back : (side : Side) (own others : List Priced) (s : State) → AllByRecursion (IsPlaced (best_of s.markets) s.orders side) own → AllByRecursion (IsPlaced (best_of s.markets) s.orders (opposite side)) others → HasPlacedRows (with_rows side own others s)
-put_back Buy own others s a b = record { buys = a; sells = b }
-put_back Sell own others s a b = record { buys = b; sells = a }
+put_back : (side : Side) (own others : List Priced) (s : State) → AllByRecursion (IsPlaced (best_of s.markets) s.orders side) own → AllByRecursion (IsPlaced (best_of s.markets) s.orders (opposite side)) others → AreWorthAtMost s.orders → IsPlacedBook (with_rows side own others s)
+put_back Buy own others s a b w = record { buys = a; sells = b; worth = w }
+put_back Sell own others s a b w = record { buys = b; sells = a; worth = w }
 
 same_markets : (side : Side) (own others : List Priced) (s : State) → (with_rows side own others s).markets ≡ s.markets
 same_markets Buy own others s = refl
@@ -133,7 +136,7 @@ pub record IsFairlyEntered (best : Best) (orders : List Order) (side : Side) (e 
   pub others : AllByRecursion (IsPlaced best orders (opposite side)) e.others
   pub fills : AllByRecursion (IsFairFill best orders) e.fills
 
-entered_fair : (best : Best) (orders : List Order) (side : Side) (taker : Priced) (immediate : Bool) (own others : List Priced) → IsPlaced best orders side taker → AllByRecursion (IsPlaced best orders side) own → AllByRecursion (IsPlaced best orders (opposite side)) others → IsFairlyEntered best orders side (entered taker immediate own others)
+pub entered_fair : (best : Best) (orders : List Order) (side : Side) (taker : Priced) (immediate : Bool) (own others : List Priced) → IsPlaced best orders side taker → AllByRecursion (IsPlaced best orders side) own → AllByRecursion (IsPlaced best orders (opposite side)) others → IsFairlyEntered best orders side (entered taker immediate own others)
 unfolding entered
 entered_fair best orders side taker immediate own others p a b =
     let left : List Priced = unfilled (row_after (total_of (takes_of taker others)) taker ∷ []) in
@@ -145,7 +148,7 @@ entered_fair best orders side taker immediate own others p a b =
       fills = fills_fair best orders side taker others p b;
     }
 
-enter_fair : (arrival : Arrival) → IsPlaced (best_of arrival.state.markets) arrival.state.orders arrival.taker.row.key.side arrival.taker → IsNoTrade arrival.notice.kind → HasPlacedRows arrival.state → IsFair (enter arrival)
+enter_fair : (arrival : Arrival) → IsPlaced (best_of arrival.state.markets) arrival.state.orders arrival.taker.row.key.side arrival.taker → IsNoTrade arrival.notice.kind → IsPlacedBook arrival.state → IsFair (enter arrival)
 unfolding enter
 enter_fair arrival p plain rows =
     let s : State = arrival.state in
@@ -163,12 +166,12 @@ enter_fair arrival p plain rows =
     let priced : AllByRecursion (λ notice. IsPricedWithin best notice.kind) (arrival.notice ∷ (trades ++ rest)) =
     (plain.any best, all_append (λ notice. IsPricedWithin best notice.kind) trades rest (trades_priced best s.orders after.fills fair.fills s.orders) (none_priced best rest none)) in
     record {
-      state = put_back side after.own after.others (record s { orders = orders }) (after_trades best s.orders after.fills side after.own fair.own) (after_trades best s.orders after.fills (opposite side) after.others fair.others);
+      state = put_back side after.own after.others (record s { orders = orders }) (after_trades best s.orders after.fills side after.own fair.own) (after_trades best s.orders after.fills (opposite side) after.others fair.others) (worth_after_all best s.orders after.fills fair.fills s.orders rows.worth);
       even = omega (arith, told Buy, told Sell, parts Buy, parts Sell, none_told Buy rest none, none_told Sell rest none, plain.none Buy, plain.none Sell, even);
       priced = subst (λ (m : List Best). AllByRecursion (λ (notice : Notice). IsPricedWithin (best_of m) notice.kind) (arrival.notice ∷ (trades ++ rest))) (sym (same_markets side after.own after.others (record s { orders = orders }))) priced;
     }
 
-new_fair : (tick event member : ℕ) (id : List ℕ) (terms : Terms) (broken : Option Rule) (s : State) → HasPlacedRows s → IsFair (on_new tick event member id terms broken s)
+new_fair : (tick event member : ℕ) (id : List ℕ) (terms : Terms) (broken : Option Rule) (s : State) → IsPlacedBook s → IsFair (on_new tick event member id terms broken s)
 unfolding on_new arrival_of_new accepted_order row_of
 new_fair tick event member id terms (Some rule) s rows = one_fair member _ s (record { none = λ side. refl; any = λ best. tt }) rows
 new_fair tick event member id terms None s rows =
@@ -184,11 +187,12 @@ new_fair tick event member id terms None s rows =
     (record {
       buys = same_sides (best_of s.markets) s.orders orders Buy kept s.buys rows.buys;
       sells = same_sides (best_of s.markets) s.orders orders Sell kept s.sells rows.sells;
+      worth = worth_next s.orders order refl rows.worth;
     })
 
 -- ---- cancels and replaces
 
-cancel_fair : (member : ℕ) (id orig : List ℕ) (live : Option Live) (broken : Option Rule) (s : State) → HasPlacedRows s → IsFair (on_cancel member id orig live broken s)
+cancel_fair : (member : ℕ) (id orig : List ℕ) (live : Option Live) (broken : Option Rule) (s : State) → IsPlacedBook s → IsFair (on_cancel member id orig live broken s)
 unfolding on_cancel cancel
 cancel_fair member id orig live (Some rule) s rows = one_fair member _ s (record { none = λ side. refl; any = λ best. tt }) rows
 cancel_fair member id orig None None s rows = record { state = rows; even = refl; priced = tt }
@@ -197,6 +201,7 @@ cancel_fair member id orig (Some live) None s rows =
     (record {
       buys = all_filter (IsPlaced (best_of s.markets) s.orders Buy) _ s.buys rows.buys;
       sells = all_filter (IsPlaced (best_of s.markets) s.orders Sell) _ s.sells rows.sells;
+      worth = rows.worth;
     })
 
 leaves_placed : (best : Best) (orders : List Order) (side : Side) (entry leaves : ℕ) (x : Priced) → IsPlaced best orders side x → IsPlaced best orders side (with_leaves entry leaves x)
@@ -207,7 +212,7 @@ leaves_placed best orders side entry leaves x p =
 
 replace_fair : (tick event member : ℕ) (id orig : List ℕ) (terms : Terms) (live : Option Live) (used : Bool) (broken : Option Rule) (s : State)
     → live_named member orig s.orders (resting s) ≡ live → verdict (Replace member id orig terms) (known_of tick used live) ≡ broken
-    → HasPlacedRows s → IsFair (on_replace tick event member id orig terms live broken s)
+    → IsPlacedBook s → IsFair (on_replace tick event member id orig terms live broken s)
 unfolding on_replace resize arrival_of_replace row_of
 replace_fair tick event member id orig terms live used (Some rule) s is v rows = one_fair member _ s (record { none = λ side. refl; any = λ best. tt }) rows
 replace_fair tick event member id orig terms None used None s is v rows = record { state = rows; even = refl; priced = tt }
@@ -218,6 +223,7 @@ replace_fair tick event member id orig terms (Some live) used None s is v rows =
     let kept = λ (j : ℕ) (side : Side) (h : side_at s.orders j ≡ Some side). side_changed change (λ order. refl) live.number s.orders j ∙ h in
     let buys = same_sides (best_of s.markets) s.orders orders Buy kept s.buys rows.buys in
     let sells = same_sides (best_of s.markets) s.orders orders Sell kept s.sells rows.sells in
+    let worth : AreWorthAtMost orders = each_kept (λ order. order.notional ≤ PRICE_END * order.cum) change (λ x w. w) live.number s.orders rows.worth in
     let at : side_at s.orders live.number ≡ Some live.order.side = ap (λ (x : Option Order). option_map (λ (order : Order). order.side) x) found.order in
     elim (only_lowers tick terms live) as (λ b. IsFair (cond b (resize tick member id orig terms live s) (enter (arrival_of_replace tick event member id orig terms live s)))) [
       | true ↦
@@ -225,6 +231,7 @@ replace_fair tick event member id orig terms (Some live) used None s is v rows =
           (record {
             buys = all_map (IsPlaced (best_of s.markets) orders Buy) (IsPlaced (best_of s.markets) orders Buy) _ (leaves_placed (best_of s.markets) orders Buy _ _) s.buys buys;
             sells = all_map (IsPlaced (best_of s.markets) orders Sell) (IsPlaced (best_of s.markets) orders Sell) _ (leaves_placed (best_of s.markets) orders Sell _ _) s.sells sells;
+            worth = worth;
           })
       | false ↦
           enter_fair (arrival_of_replace tick event member id orig terms live s)
@@ -236,12 +243,13 @@ replace_fair tick event member id orig terms (Some live) used None s is v rows =
           (record {
             buys = all_filter (IsPlaced (best_of s.markets) orders Buy) _ s.buys buys;
             sells = all_filter (IsPlaced (best_of s.markets) orders Sell) _ s.sells sells;
+            worth = worth;
           })
     ]
 
 -- ---- all events
 
-status_fair : (member : ℕ) (id : List ℕ) (side : ℕ) (s : State) → HasPlacedRows s → IsFair (on_status member id side s)
+status_fair : (member : ℕ) (id : List ℕ) (side : ℕ) (s : State) → IsPlacedBook s → IsFair (on_status member id side s)
 unfolding on_status
 status_fair member id side s rows =
     elim (order_named member id s.orders) as (λ found. IsFair (with_notice member (option_map_or (λ x. Status (view_now s x)) found (Unknown id side)) s)) [
@@ -249,7 +257,7 @@ status_fair member id side s rows =
       | Some x ↦ one_fair member _ s (record { none = λ z. refl; any = λ best. tt }) rows
     ]
 
-pub outcome_fair : (tick event : ℕ) (command : Command) (s : State) → HasPlacedRows s → IsFair (outcome_of tick event command s)
+pub outcome_fair : (tick event : ℕ) (command : Command) (s : State) → IsPlacedBook s → IsFair (outcome_of tick event command s)
 unfolding outcome_of
 outcome_fair tick event (Quote market bid offer) s rows = quote_fair event market (record { bid = bid; offer = offer }) s rows
 outcome_fair tick event (New member id terms) s rows = new_fair tick event member id terms _ s rows

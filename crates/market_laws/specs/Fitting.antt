@@ -1,6 +1,7 @@
 -- Trades that fit the orders to which they are added.
-use Rattle.std.specs.Prelude.{◌≡◌, ℕ, ◌+◌, ◌≤◌, List, [], ◌∷◌, slice_get, Some}
+use Rattle.std.specs.Prelude.{◌≡◌, ℕ, ◌+◌, ◌≤◌, List, [], ◌∷◌, length, slice_get, Some}
 use Rattle.venue_words.specs.declared.command.Event.{Event}
+use Rattle.venue_words.specs.declared.command.Terms.{Terms}
 use Rattle.venue_words.specs.declared.price.Best.{Best}
 use Rattle.venue_words.specs.Retime.{reprice}
 use Rattle.eager_meaning.specs.declared.order.Order.{Order}
@@ -8,8 +9,10 @@ use Rattle.eager_meaning.specs.declared.trade.Fill.{Fill}
 use Rattle.eager_meaning.specs.Orders.{changed_at}
 use Rattle.eager_meaning.specs.Trades.{order_after, orders_after}
 use Rattle.eager_meaning.specs.Recheck.{recheck}
+use Rattle.eager_meaning.specs.Entering.{entered, arrival_of_new}
+use Rattle.eager_meaning.specs.State.{own_rows, other_rows}
 use Rattle.eager_meaning.specs.Step.{IsNumbered, runs}
-use Rattle.market_laws.specs.Placed.{HasPlacedRows}
+use Rattle.market_laws.specs.Placed.{IsPlacedBook}
 
 -- the order with this number is there, and has the shares of a trade left
 pub record TradeFits (fill : Fill) (number : ℕ) (orders : List Order) : Type 0 where
@@ -34,6 +37,18 @@ QuoteTradesFit =
     → let s = (runs markets tick history).state in
     FillsFit (recheck (reprice event best s.buys) (reprice event best s.sells)).fills s.orders
 
+-- after every history whose events are numbered: the trades that a New makes, where it enters at the next event, fit
+abbrev pub NewTradesFit : Type 0
+NewTradesFit =
+    (markets tick : ℕ) (history : List Event)
+    → IsNumbered history
+    → (member : ℕ) (id : List ℕ) (terms : Terms)
+    → let arrival = arrival_of_new tick (length history + 1) member id terms (runs markets tick history).state in
+    let side = arrival.taker.row.key.side in
+    FillsFit
+    (entered arrival.taker arrival.immediate (own_rows side arrival.state) (other_rows side arrival.state)).fills
+    arrival.state.orders
+
 -- after every history, each row is on its list's side, as its order is, and is priced by the national quote
 abbrev pub RowsArePlaced : Type 0
-RowsArePlaced = (markets tick : ℕ) (history : List Event) → HasPlacedRows (runs markets tick history).state
+RowsArePlaced = (markets tick : ℕ) (history : List Event) → IsPlacedBook (runs markets tick history).state

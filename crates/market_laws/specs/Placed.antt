@@ -1,6 +1,7 @@
 -- Rows that stand on their order's side, priced by the present quote.
-use Rattle.std.specs.Prelude.{◌≡◌, ℕ, List, slice_get, Option, Some, option_map}
+use Rattle.std.specs.Prelude.{◌≡◌, ℕ, ◌*◌, ◌≤◌, List, slice_get, Option, Some, option_map}
 use Rattle.std.specs.List.{AllByRecursion}
+use Rattle.venue_words.specs.declared.price.TheConstants.{PRICE_END}
 use Rattle.venue_words.specs.declared.price.Best.{Best}
 use Rattle.venue_words.specs.declared.price.Side.{Side}
 use Rattle.venue_words.specs.declared.price.Side.TheVariants.{Buy, Sell}
@@ -29,7 +30,14 @@ pub record IsPlaced (best : Best) (orders : List Order) (side : Side) (x : Price
   pub on : IsOnSide orders side x
   pub priced : x.value ≡ value_under best x.row
 
--- each row of a book is on its list's side, and priced by the national quote
-pub record HasPlacedRows (s : State) : Type 0 where
+-- no order's trades are worth more than its CumQty at the greatest price
+abbrev pub AreWorthAtMost : List Order → Type 0
+AreWorthAtMost orders =
+    (k : ℕ) (order : Order) → slice_get orders k ≡ Some order → order.notional ≤ PRICE_END * order.cum
+
+-- each row of a book is on its list's side and priced by the national quote, and each order's trades are worth at most
+-- the greatest price for each share
+pub record IsPlacedBook (s : State) : Type 0 where
   pub buys : AllByRecursion (IsPlaced (best_of s.markets) s.orders Buy) s.buys
   pub sells : AllByRecursion (IsPlaced (best_of s.markets) s.orders Sell) s.sells
+  pub worth : AreWorthAtMost s.orders

@@ -50,10 +50,12 @@ pub record AreSound (events : ℕ) (orders : List Order) (own others : List Pric
   pub differ : AllByRecursion (λ x. IsNew x.row others) own
   pub sound : (k : ℕ) (order : Order) → slice_get orders k ≡ Some order → IsSoundOrder order
 
--- a state after so many events: its rows and orders agree, and no event made more than one order
+-- a state after so many events: its rows and orders agree, and it has no more orders than events, and no more rows than
+-- orders
 pub record IsSound (events : ℕ) (s : State) : Type 0 where
   pub rows : AreSound events s.orders s.buys s.sells
   pub few : length s.orders ≤ events
+  pub fewer : length s.buys + length s.sells ≤ length s.orders
 
 -- after every history whose events are numbered, the book is sound
 abbrev pub BookIsSound : Type 0

@@ -1,5 +1,5 @@
 //! Laws of the orders of a book.
-ghost use Rattle.market_laws.specs.Fitting.{QuoteTradesFit, RowsArePlaced};
+ghost use Rattle.market_laws.specs.Fitting.{NewTradesFit, QuoteTradesFit, RowsArePlaced};
 ghost use Rattle.market_laws.specs.Orders.{CumIsSumOfTrades};
 ghost use Rattle.market_laws.specs.Sound.{BookIsSound};
 
@@ -12,7 +12,7 @@ pub fn cum_is_sum_of_trades()
 
 /// After every history the rows and the orders of the book agree: no two rows are of one event or of one order; each row
 /// has an order of its number and member, and shares left, which with the order's CumQty are its quantity; no order
-/// traded more than its quantity; and there are no more orders than events.
+/// traded more than its quantity; and there are no more orders than events, and no more rows than orders.
 // Rules out a trade of shares that an order does not have, a row that is filled and stays, one whose order lost or gained
 // shares by a Replace, two rows of one order, and a row that forgets that its order has traded.
 pub fn book_is_sound()
@@ -20,9 +20,10 @@ pub fn book_is_sound()
 {}
 
 /// After every history each row is on its list's side, its order is of that side too, and its value is the one that the
-/// present national quote gives it.
-// Rules out a buy among the sells, a Replace that turns an order's side, and a row that keeps the price of an earlier
-// quote.
+/// present national quote gives it. The sum of price times quantity over an order's trades is at most `PRICE_END` for
+/// each share of its CumQty.
+// Rules out a buy among the sells, a Replace that turns an order's side, a row that keeps the price of an earlier quote,
+// and an average price above the greatest price.
 pub fn rows_are_placed()
     ensures { RowsArePlaced }
 {}
@@ -33,4 +34,11 @@ pub fn rows_are_placed()
 // there.
 pub fn quote_trades_fit()
     ensures { QuoteTradesFit }
+{}
+
+/// The trades of a New that enters at the next event fit: both orders of each are there, and have its shares left when it
+/// is made.
+// Rules out a New that trades more than its quantity, and one that takes more from a resting order than it has left.
+pub fn new_trades_fit()
+    ensures { NewTradesFit }
 {}
