@@ -152,6 +152,6 @@ can_submit request member config moment decoded ok configured e =
     by_test (is_order request.kind)
     (λ is. let found = passes (failed_of request) (decoded_at request member moment symbol) decoded (rw is at e) in
     let short = no_tag (find (is_long request.fields) (required_of request.kind))
-        (none_long (required_of request.kind) (optional_of request.kind) request.fields found.0) in
+    (none_long (required_of request.kind) (optional_of request.kind) request.fields found.0) in
     subst (CanSubmit (setup_of config)) found.1 (at_symbol request member config moment symbol ok configured refl short))
     (λ is. let impossible = rw is at e in cc)
