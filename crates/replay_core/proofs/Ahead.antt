@@ -1,12 +1,12 @@
 -- What a text makes from a place on, by its first line.
-use Rattle.std.proofs.Common.{◌≡◌, ℕ, ◌+◌, ◌<◌, Bool, true, false, List, [], ◌∷◌, ◌++◌, length, refl, sym, ◌∙◌, ap, append-nil, Err, arith, nat_lt, cond, length-append}
+use Rattle.std.proofs.Common.{◌≡◌, ℕ, ◌+◌, ◌<◌, Bool, true, false, List, [], ◌∷◌, ◌++◌, length, refl, ap, append-nil, Err, arith, nat_lt, cond, length-append}
 use Rattle.std.proofs.lemmas.Bool.Decides.{nat_tests}
 use Rattle.script_text.specs.Lines.{cut, has_end}
 use Rattle.script_text.specs.LinesLaws.{cut_joined, cut_first, cut_whole, joined}
 use Rattle.replay_core.specs.declared.fault.Fault.{Fault}
 use Rattle.replay_core.specs.declared.fault.Fault.TheVariants.{Limit}
 use Rattle.script_text.specs.declared.fault.LimitCause.TheVariants.{Line}
-use Rattle.replay_core.specs.Play.{Place, Played, played, play, step_at, end_at, after_line, stopped, finished, is_end}
+use Rattle.replay_core.specs.Play.{Place, played, play, step_at, end_at, after_line, stopped, finished, is_end}
 use Rattle.script_text.specs.Header.{longest_line}
 
 pub played_step : (p : Place) (held more : List ℕ) → has_end held ≡ false

@@ -1,9 +1,9 @@
 -- From the outcome of a script to what `replay` answers.
-use Rattle.std.proofs.Common.{◌≡◌, ◌≢◌, ℕ, ◌⊎◌, List, Option, Some, None, IfSome, refl, sym, ◌∙◌, inl, inr, option_and_then}
+use Rattle.std.proofs.Common.{◌≡◌, ◌≢◌, ℕ, ◌⊎◌, List, Option, Some, None, IfSome, refl, inl, inr}
 use Rattle.io_edge.specs.Files.{Files, file_named}
 use Rattle.replay_core.specs.Play.{script}
 use Rattle.replay_core.specs.Telling.{Outcome}
-use Rattle.replay_core.specs.Statuses.{Told, Yields}
+use Rattle.replay_core.specs.Statuses.{Told}
 use Rattle.replay_core.specs.Causes.{script_named, script_told}
 use Rattle.replay_core.specs.declared.status.Status.{Status}
 use Rattle.replay_core.specs.declared.status.Status.TheVariants.{Done, BadWords, BadLine, LimitLine, Unbuilt, ReadFault, WriteFault, NoMemory}

@@ -1,7 +1,7 @@
 -- How what was told goes on from call to call.
-use Rattle.std.proofs.Common.{◌≡◌, ℕ, List, [], ◌∷◌, ◌++◌, Option, Some, None, refl, sym, ◌∙◌, ap, append_assoc, append-nil}
+use Rattle.std.proofs.Common.{◌≡◌, ℕ, List, [], ◌++◌, Option, Some, None, refl, sym, ap, append_assoc, append-nil}
 use Rattle.std.specs.Io.KnownBytes.{Appends}
-use Rattle.replay_core.specs.Play.{Played, onto, stopped}
+use Rattle.replay_core.specs.Play.{Played, onto}
 use Rattle.replay_core.specs.Telling.{Leads, Begins, Halts}
 use Rattle.replay_core.specs.declared.status.Status.{Status}
 use Rattle.replay_core.specs.declared.status.Status.TheVariants.{Done, BadWords, BadLine, LimitLine, Unbuilt, ReadFault, WriteFault, NoMemory}

@@ -1,5 +1,5 @@
 -- What a line, or its beginning, does to what a script makes.
-use Rattle.std.proofs.Common.{◌≡◌, ℕ, ◌+◌, ◌<◌, ◌⊎◌, ◌==◌, ◌||◌, Bool, true, false, List, [], ◌∷◌, ◌++◌, length, take, drop, Option, Some, None, Ok, Err, refl, sym, ◌∙◌, ap, append_assoc, append-nil, inl, inr}
+use Rattle.std.proofs.Common.{◌≡◌, ℕ, ◌+◌, ◌<◌, ◌⊎◌, ◌==◌, ◌||◌, Bool, true, false, List, [], ◌∷◌, ◌++◌, length, take, drop, Option, Ok, Err, refl, sym, ◌∙◌, ap, append_assoc, inl, inr}
 use Rattle.std.proofs.lemmas.List.{take-append-drop}
 use Rattle.std.specs.Io.KnownBytes.{Appends}
 use Rattle.io_edge.specs.Grows.{AppendsPrefix}
@@ -7,7 +7,7 @@ use Rattle.script_text.specs.Lines.{has_end}
 use Rattle.replay_core.specs.declared.fault.Fault.{Fault}
 use Rattle.replay_core.specs.declared.fault.Fault.TheVariants.{Bad, Limit, Unbuilt, NoMemory}
 use Rattle.script_text.specs.declared.fault.LimitCause.TheVariants.{Line}
-use Rattle.replay_core.specs.Play.{Place, Played, played, step_at, end_at, after_line, onto, stopped, finished}
+use Rattle.replay_core.specs.Play.{Place, Played, played, step_at, after_line, stopped}
 use Rattle.script_text.specs.Header.{longest_line}
 use Rattle.replay_core.specs.Telling.{Leads, Begins, Halts}
 use Rattle.replay_core.specs.Statuses.{status_of}

@@ -1,5 +1,5 @@
 -- From the middle of a script to its outcome.
-use Rattle.std.proofs.Common.{◌≡◌, ℕ, ◌⊎◌, List, [], ◌∷◌, ◌++◌, length, take, Option, Some, None, IfSome, refl, sym, ◌∙◌, ap, append_assoc, append-nil, inl, inr}
+use Rattle.std.proofs.Common.{◌≡◌, ℕ, List, [], ◌++◌, length, take, Option, Some, None, IfSome, refl, sym, ◌∙◌, ap, append_assoc, append-nil}
 use Rattle.std.proofs.Math.Seq.{take-append_seam}
 use Rattle.std.specs.Io.KnownBytes.{Appends, Consumes, Keeps, IsAtEnd}
 use Rattle.io_edge.specs.Files.{Files, file_named}
@@ -7,11 +7,11 @@ use Rattle.io_edge.specs.Grows.{AppendsPrefix}
 use Rattle.script_text.specs.Lines as lines
 use Rattle.replay_core.specs.declared.fault.Fault.{Fault}
 use Rattle.replay_core.specs.declared.fault.Fault.TheVariants as fault
-use Rattle.replay_core.specs.Play.{Place, Played, played, start, script, onto, stopped, end_at, play}
-use Rattle.replay_core.specs.Telling.{Leads, Begins, Halts, GaveUp, Outcome, Underway, ending}
+use Rattle.replay_core.specs.Play.{Place, Played, played, start, script, onto, end_at, play}
+use Rattle.replay_core.specs.Telling.{Leads, Begins, Halts, Outcome, Underway, ending}
 use Rattle.replay_core.specs.declared.status.Status.{Status}
 use Rattle.replay_core.specs.declared.status.Status.TheVariants.{Done, BadWords, BadLine, LimitLine, Unbuilt, ReadFault, WriteFault, NoMemory}
-use Rattle.replay_core.proofs.Leading.{appends_none, appends_trans, leads_trans, leads_begins, leads_halts}
+use Rattle.replay_core.proofs.Leading.{appends_none, leads_trans, leads_halts}
 use Rattle.replay_core.proofs.PieceByPiece.{leads_front}
 
 consumes_trans : (a b c : Option (List ℕ)) (p q : List ℕ) → Consumes a b p → Consumes b c q → Consumes a c (p ++ q)

@@ -1,6 +1,6 @@
 -- A piece of a text, line by line.
-use Rattle.std.proofs.Common.{◌≡◌, ℕ, ◌⊎◌, List, [], ◌∷◌, ◌++◌, Option, refl, sym, ◌∙◌, ap, append_assoc}
-use Rattle.replay_core.specs.Play.{Place, Played, played, onto}
+use Rattle.std.proofs.Common.{◌≡◌, ℕ, List, ◌∷◌, ◌++◌, Option, refl, ◌∙◌, ap, append_assoc}
+use Rattle.replay_core.specs.Play.{Place, Played, played}
 use Rattle.replay_core.specs.Telling.{Leads, Begins, Halts}
 use Rattle.replay_core.specs.declared.status.Status.{Status}
 use Rattle.replay_core.specs.declared.status.Status.TheVariants.{Done, BadWords, BadLine, LimitLine, Unbuilt, ReadFault, WriteFault, NoMemory}

@@ -1,5 +1,5 @@
 -- The lines behind the header of a script that are worked so far: one quote, Logons, and mid-price orders.
-use Rattle.std.specs.Prelude.{ℕ, ◌+◌, ◌*◌, ◌==◌, ◌&&◌, ◌||◌, Bool, true, false, not, nat_le, nat_lt, List, [], ◌∷◌, length, map, Option, Some, None, codes, decimal, slice_get, slice_index, if◌then◌else◌, Result, Ok, Err, count_by, position, take, drop}
+use Rattle.std.specs.Prelude.{ℕ, ◌+◌, ◌==◌, ◌&&◌, ◌||◌, Bool, true, false, not, nat_le, nat_lt, List, [], ◌∷◌, length, map, Option, Some, None, codes, slice_get, slice_index, if◌then◌else◌, Result, Ok, Err, count_by, take, drop}
 use Rattle.std.specs.List.{list_any, list_all, before_first, after_first}
 use Rattle.std.specs.Option.{option_map_or}
 use Rattle.std.specs.Str.{bytes_eq}
@@ -14,7 +14,7 @@ use Rattle.fix_fields.specs.Forms.{number_of}
 use Rattle.quote_intake.specs.Price.{cents_of}
 use Rattle.script_text.specs.Escaping.{is_plain}
 use Rattle.replay_core.specs.declared.body_line.BodyLine.{BodyLine}
-use Rattle.replay_core.specs.declared.body_line.BodyLine.TheVariants.{FirstQuote, Logon, Order}
+use Rattle.replay_core.specs.declared.body_line.BodyLine.TheVariants.{FirstQuote, Order}
 
 -- what stands before the first byte of this kind, and behind it
 abbrev pub before_byte : ℕ → List ℕ → List ℕ

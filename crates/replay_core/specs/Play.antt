@@ -1,15 +1,15 @@
 -- What a script makes, line by line.
-use Rattle.std.specs.Prelude.{◌≡◌, ℕ, ◌+◌, ◌==◌, Bool, true, false, List, [], ◌∷◌, ◌++◌, length, Option, Some, None, Result, Ok, Err, nat_lt, nat_le, if◌then◌else◌}
+use Rattle.std.specs.Prelude.{ℕ, ◌+◌, Bool, true, false, List, [], ◌∷◌, ◌++◌, length, Option, Some, None, Result, Ok, Err, nat_lt, if◌then◌else◌}
 use Rattle.script_text.specs.Header.{header_line, blank, longest_line}
-use Rattle.script_text.specs.Lines.{Cut, cut}
+use Rattle.script_text.specs.Lines.{cut}
 use Rattle.script_text.specs.declared.header.Header.{Header}
 use Rattle.replay_core.specs.declared.fault.Fault.{Fault}
 use Rattle.replay_core.specs.declared.fault.Fault.TheVariants.{Bad, Limit, Unbuilt, NoMemory}
 use Rattle.script_text.specs.declared.fault.LineFault.{LineFault}
 use Rattle.replay_core.specs.Faults.{fault_of}
-use Rattle.script_text.specs.declared.fault.LineCause.TheVariants.{NoEnd, BadWord}
+use Rattle.script_text.specs.declared.fault.LineCause.TheVariants.{NoEnd}
 use Rattle.script_text.specs.declared.fault.LimitCause.{LimitCause}
-use Rattle.script_text.specs.declared.fault.LimitCause.TheVariants.{Line, Bytes, Events}
+use Rattle.script_text.specs.declared.fault.LimitCause.TheVariants.{Line, Bytes}
 use Rattle.replay_core.specs.Player.{Playing, play_line, player_of}
 use Rattle.replay_core.specs.declared.phase.Phase.{Phase}
 use Rattle.replay_core.specs.declared.phase.Phase.TheVariants.{Head, Body}

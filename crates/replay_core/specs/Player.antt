@@ -1,7 +1,5 @@
 -- What the lines behind the header of a script do.
-use Rattle.std.specs.Prelude.{ℕ, ◌+◌, ◌*◌, ◌==◌, ◌&&◌, Bool, true, false, not, nat_lt, List, [], ◌∷◌, ◌++◌, length, replicate, slice_set, slice_index, slice_get, Option, Some, None, Result, Ok, Err, codes, decimal, if◌then◌else◌, position, pos}
-use Rattle.std.specs.Option.{option_map_or}
-use Rattle.std.specs.Str.{bytes_eq}
+use Rattle.std.specs.Prelude.{ℕ, ◌+◌, ◌*◌, ◌==◌, ◌&&◌, Bool, true, false, nat_lt, List, [], ◌∷◌, ◌++◌, length, replicate, slice_set, slice_index, Option, Some, None, Result, Ok, Err, if◌then◌else◌, pos}
 use Rattle.venue_words.specs.declared.config.Config.{Config}
 use Rattle.venue_words.specs.declared.command.Command.{Command}
 use Rattle.venue_words.specs.declared.command.Command.TheVariants.{Quote, New}
@@ -14,7 +12,7 @@ use Rattle.replay_core.specs.declared.body_line.BodyLine.TheVariants.{FirstQuote
 use Rattle.replay_core.specs.declared.fault.Fault.{Fault}
 use Rattle.replay_core.specs.declared.fault.Fault.TheVariants.{Unbuilt}
 use Rattle.replay_core.specs.Lines.{body_line}
-use Rattle.replay_core.specs.Transcript.{member_name, symbol_name, logon_line, event_lines}
+use Rattle.replay_core.specs.Transcript.{member_name, logon_line, event_lines}
 
 -- a player between two lines: how many lines came before, which members are logged on, the events so far with the
 -- number of their reports, and the fault after which it answers nothing else

@@ -1,5 +1,5 @@
 -- The reader in the middle of a script.
-use Rattle.std.specs.Prelude.{◌≡◌, ℕ, ◌+◌, List, ◌++◌, vec_len}
+use Rattle.std.specs.Prelude.{ℕ, ◌+◌, List, ◌++◌, vec_len}
 use Rattle.replay_core.specs.Play.{Place, Played, played, end_at}
 use Rattle.std.specs.Prelude.{Option}
 use Rattle.replay_core.specs.declared.fault.Fault.{Fault}

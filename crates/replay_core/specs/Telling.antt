@@ -1,10 +1,10 @@
 -- What a sink is told of a script, up to the present place or to a status.
-use Rattle.std.specs.Prelude.{◌≡◌, ℕ, ◌⊎◌, List, [], ◌++◌, Option, Some, None, MatchOption}
+use Rattle.std.specs.Prelude.{◌≡◌, ℕ, List, [], ◌++◌, Option, Some, None, MatchOption}
 use Rattle.std.specs.Io.KnownBytes.{Appends, Consumes}
 use Rattle.io_edge.specs.Grows.{AppendsPrefix}
 use Rattle.replay_core.specs.declared.fault.Fault.{Fault}
 use Rattle.replay_core.specs.declared.fault.Fault.TheVariants as fault
-use Rattle.replay_core.specs.Play.{Played, onto, stopped, finished, script, played, start}
+use Rattle.replay_core.specs.Play.{Played, onto, stopped, script, played, start}
 use Rattle.replay_core.specs.Statuses.{status_of}
 use Rattle.replay_core.specs.declared.status.Status.{Status}
 use Rattle.replay_core.specs.declared.status.Status.TheVariants.{Done, BadWords, BadLine, LimitLine, Unbuilt, ReadFault, WriteFault, NoMemory}

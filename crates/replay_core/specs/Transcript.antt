@@ -1,5 +1,5 @@
 -- The lines of output: a frame to a member, as text.
-use Rattle.std.specs.Prelude.{ℕ, ◌+◌, List, [], ◌∷◌, ◌++◌, length, take, None, Option, codes, slice_get}
+use Rattle.std.specs.Prelude.{ℕ, ◌+◌, List, [], ◌∷◌, ◌++◌, length, take, None, codes, slice_get}
 use Rattle.std.specs.Option.{option_map_or}
 use Rattle.venue_words.specs.declared.config.Config.{Config}
 use Rattle.venue_words.specs.declared.report.Report.{Report}

@@ -1,4 +1,4 @@
-use Rattle.std.proofs.Common.{◌≡◌, ◌≤◌, ◌+◌, ◌++◌, ◌==◌, drop, filter, length}
+use Rattle.std.proofs.Common.{◌≡◌, ◌≤◌, ◌+◌, ◌++◌, ◌==◌, drop, filter}
 use Rattle.replay_core.specs.Transcript.{report_lines}
 use Rattle.replay_core.proofs.transcript.push_member.Given as goal
 
