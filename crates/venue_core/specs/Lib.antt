@@ -1,0 +1,6 @@
+pub mod Closing
+pub mod Joining
+pub mod Marks
+pub mod Shown
+pub mod Turns
+pub mod Venues

@@ -1,0 +1,68 @@
+//! A venue for one thread.
+ghost use Rattle.std.specs.Prelude.{◌≡◌, ◌<◌, true, length, map, slice_get, Some, IfOk};
+ghost use Rattle.std.specs.List.{All};
+ghost use Rattle.venue_words.specs.Conditions.{fits_limits};
+ghost use Rattle.venue_words.specs.Floors.{setup_of, is_configured};
+ghost use Rattle.venue_core.specs.Venues.{TakesConfigured};
+
+use std::alloc::Global;
+use std::marker::Model;
+use std::sync::ledger::Ledger;
+use venue_words::{Command, Config, Floor, FloorRefusal, Held, Look, NoMemory, Steps};
+
+/// A venue of one book for each symbol, which one thread has for itself: a floor that never waits.
+///
+/// At each symbol it shows the book's journal, of which every event is its own. It tells no turns. A refusal
+/// leaves all that it shows.
+#[derive(Drop)]
+pub struct PlainVenue<V: Held> {
+    members: usize,
+    markets: usize,
+    ticks: Vec<u32>,
+    books: Vec<V>,
+}
+
+impl<V: Held> Model for PlainVenue<V> {
+    ghost use Rattle.std.specs.List.{All};
+    ghost use Rattle.venue_core.specs.Venues.{PlainState, TakesConfigured, setup_with};
+
+    ghost Value = { PlainState V };
+
+    ghost view = { λ venue. record {
+      setup = setup_with V.limit venue.members venue.markets venue.books.items venue.ticks.items;
+      books = venue.books.items;
+    } };
+
+    ghost invariant = { λ venue. All (λ book. TakesConfigured V.takes
+        (setup_with V.limit venue.members venue.markets venue.books.items venue.ticks.items) (V.setting book)) venue.books.items };
+}
+
+impl<V: Held + Drop> PlainVenue<V> {
+    /// Makes a venue of books, one for each symbol of the config, in its order.
+    pub fn from_books(
+        alloc: Global,
+        config: &Config,
+        books: Vec<V>,
+    ) -> Result<PlainVenue<V>, NoMemory>
+        requires limits { map V.limit books.items ≡ config.now.limits }
+        requires takes { All (λ book. TakesConfigured V.takes (setup_of config.now) (V.setting book)) books.items }
+        ensures setup { IfOk result (λ venue. venue.setup ≡ setup_of config.now) }
+        ensures books { IfOk result (λ venue. venue.books ≡ books.items) }
+    {
+        let ticks = Vec::from_slice(alloc, config.ticks.as_slice())?;
+        Ok(PlainVenue {
+            members: config.members.len(),
+            markets: config.markets.len(),
+            ticks,
+            books,
+        })
+    }
+
+    /// The book of a symbol.
+    pub fn book(&self, symbol: u32) -> &V
+        requires { symbol < length self.now.books }
+        ensures { slice_get self.now.books symbol ≡ Some result.now }
+    {
+        &self.books[symbol as usize]
+    }
+}
