@@ -1,0 +1,4 @@
+pub mod Answered
+pub mod AtSymbol
+pub mod Places
+pub mod Showing

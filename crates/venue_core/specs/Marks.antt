@@ -2,7 +2,7 @@
 use Rattle.std.specs.Prelude.{ℕ, List, [], ◌∷◌, map, slice_get, Option, Some, None}
 use Rattle.turn_gate.specs.Seats.{GateId, SeatState}
 use Rattle.venue_words.specs.Floors.{FloorMark}
-use Rattle.venue_core.specs.Venues.{VenueId, PlainState}
+use Rattle.venue_core.specs.Venues.{VenueId, setup_in, PlainState, plain_setup}
 
 -- a seat's gate and its part, in numbers
 abbrev pub seat_mark : SeatState → List ℕ
@@ -20,11 +20,12 @@ seat_mark seat =
 
 -- the mark of seats of a venue
 abbrev pub mark_of : VenueId → List SeatState → FloorMark
-mark_of venue seats = record { setup = venue.setup; seats = map seat_mark seats }
+mark_of venue seats = record { setup = setup_in venue; seats = map seat_mark seats }
 
 -- the mark of a venue without gates
-abbrev pub plain_mark : {V : Type 0} → (V → ℕ) → PlainState V → FloorMark
-plain_mark setting_of plain = record { setup = plain.setup; seats = map (λ book. setting_of book ∷ []) plain.books }
+abbrev pub plain_mark : {V : Type 0} → (V → ℕ) → (V → ℕ) → PlainState V → FloorMark
+plain_mark limit_of setting_of plain =
+    record { setup = plain_setup limit_of plain; seats = map (λ book. setting_of book ∷ []) plain.books }
 
 abbrev pub first_number : Option (List ℕ) → ℕ
 first_number None = 0

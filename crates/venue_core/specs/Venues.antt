@@ -5,25 +5,44 @@ use Rattle.venue_words.specs.Conditions.{fits_limits}
 use Rattle.venue_words.specs.Floors.{Setup, is_configured}
 use Rattle.venue_words.specs.declared.command.Command.{Command}
 
--- a venue for many threads: its configured things, and the gates of its books, one for each symbol
+-- a venue for many threads: how many members and markets it has, the tick of each symbol, and the gates of its books,
+-- one for each symbol
 pub record VenueId : Type 0 where
-  pub setup : Setup
+  pub members : ℕ
+  pub markets : ℕ
+  pub ticks : List ℕ
   pub gates : List GateId
 
--- a venue for one thread: its configured things, and its books, one for each symbol
+abbrev pub venue_id : ℕ → ℕ → List ℕ → List GateId → VenueId
+venue_id members markets ticks gates = record { members = members; markets = markets; ticks = ticks; gates = gates }
+
+-- what it is set up with
+abbrev pub setup_in : VenueId → Setup
+setup_in venue = record {
+  members = venue.members;
+  markets = venue.markets;
+  limits = map (λ gate. gate.limit) venue.gates;
+  ticks = venue.ticks;
+}
+
+-- a venue for one thread: how many members and markets it has, the tick of each symbol, and its books, one for each symbol
 pub record PlainState (V : Type 0) : Type 0 where
-  pub setup : Setup
+  pub members : ℕ
+  pub markets : ℕ
+  pub ticks : List ℕ
   pub books : List V
 
--- what a venue over gates is set up with
-abbrev pub setup_over : ℕ → ℕ → List GateId → List ℕ → Setup
-setup_over members markets gates ticks =
-    record { members = members; markets = markets; limits = map (λ gate. gate.limit) gates; ticks = ticks }
+abbrev pub plain_state : {V : Type 0} → ℕ → ℕ → List ℕ → List V → PlainState V
+plain_state members markets ticks books = record { members = members; markets = markets; ticks = ticks; books = books }
 
--- what a venue over books is set up with
-abbrev pub setup_with : {V : Type 0} → (V → ℕ) → ℕ → ℕ → List V → List ℕ → Setup
-setup_with limit_of members markets books ticks =
-    record { members = members; markets = markets; limits = map limit_of books; ticks = ticks }
+-- what it is set up with
+abbrev pub plain_setup : {V : Type 0} → (V → ℕ) → PlainState V → Setup
+plain_setup limit_of plain = record {
+  members = plain.members;
+  markets = plain.markets;
+  limits = map limit_of plain.books;
+  ticks = plain.ticks;
+}
 
 -- the seats are of the gates of the venue, one for each symbol
 abbrev pub AreSeatsOf : VenueId → List SeatState → Type 0

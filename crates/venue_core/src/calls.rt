@@ -41,11 +41,11 @@ pub(crate) fn gates_of<V: Held + Drop>(
 
 // Splits each seat. The memory is taken first.
 pub(crate) fn split<V: Held>(
-    gates: &[Gate<V>],
+    gates: &Vec<Gate<V>>,
     alloc: Global,
     seats: &mut Vec<Seat>,
 ) -> Result<Vec<Seat>, NoMemory>
-    requires gates { map (λ seat. seat.gate) seats.old.items ≡ gates.now }
+    requires gates { map (λ seat. seat.gate) seats.old.items ≡ gates.now.items }
     requires parts { All (λ seat. 1 < seat.part) seats.old.items }
     ensures old { IfOk result (λ new. seats.new.items ≡ map after_split seats.old.items) }
     ensures new { IfOk result (λ new. new.items ≡ map split_off seats.old.items) }
@@ -59,9 +59,9 @@ pub(crate) fn split<V: Held>(
 }
 
 // Joins each of the other seats into the seat of its gate.
-pub(crate) fn join<V: Held>(gates: &[Gate<V>], seats: &mut Vec<Seat>, other: Vec<Seat>)
-    requires gates { map (λ seat. seat.gate) seats.old.items ≡ gates.now }
-    requires other_gates { map (λ seat. seat.gate) other.items ≡ gates.now }
+pub(crate) fn join<V: Held>(gates: &Vec<Gate<V>>, seats: &mut Vec<Seat>, other: Vec<Seat>)
+    requires gates { map (λ seat. seat.gate) seats.old.items ≡ gates.now.items }
+    requires other_gates { map (λ seat. seat.gate) other.items ≡ gates.now.items }
     ensures seats { seats.new.items ≡ all_joined seats.old.items other.items }
     ensures seen { AllZip (λ seat joined. StartsWith joined.seen seat.seen) seats.old.items seats.new.items }
     ensures other_seen { AllZip (λ seat joined. StartsWith joined.seen seat.seen) other.items seats.new.items }

@@ -3,7 +3,7 @@ ghost use Rattle.std.specs.Prelude.{◌≡◌, ◌<◌, true, length, map, slice
 ghost use Rattle.std.specs.List.{All};
 ghost use Rattle.venue_words.specs.Conditions.{fits_limits};
 ghost use Rattle.venue_words.specs.Floors.{setup_of, is_configured};
-ghost use Rattle.venue_core.specs.Venues.{TakesConfigured};
+ghost use Rattle.venue_core.specs.Venues.{TakesConfigured, plain_setup};
 
 use std::alloc::Global;
 use std::marker::Model;
@@ -24,17 +24,15 @@ pub struct PlainVenue<V: Held> {
 
 impl<V: Held> Model for PlainVenue<V> {
     ghost use Rattle.std.specs.List.{All};
-    ghost use Rattle.venue_core.specs.Venues.{PlainState, TakesConfigured, setup_with};
+    ghost use Rattle.venue_core.specs.Venues.{PlainState, plain_state, plain_setup, TakesConfigured};
 
     ghost Value = { PlainState V };
 
-    ghost view = { λ venue. record {
-      setup = setup_with V.limit venue.members venue.markets venue.books.items venue.ticks.items;
-      books = venue.books.items;
-    } };
+    ghost view = { λ venue. plain_state venue.members venue.markets venue.ticks.items venue.books.items };
 
     ghost invariant = { λ venue. All (λ book. TakesConfigured V.takes
-        (setup_with V.limit venue.members venue.markets venue.books.items venue.ticks.items) (V.setting book)) venue.books.items };
+        (plain_setup V.limit (plain_state venue.members venue.markets venue.ticks.items venue.books.items)) (V.setting book))
+        venue.books.items };
 }
 
 impl<V: Held + Drop> PlainVenue<V> {
@@ -46,7 +44,7 @@ impl<V: Held + Drop> PlainVenue<V> {
     ) -> Result<PlainVenue<V>, NoMemory>
         requires limits { map V.limit books.items ≡ config.now.limits }
         requires takes { All (λ book. TakesConfigured V.takes (setup_of config.now) (V.setting book)) books.items }
-        ensures setup { IfOk result (λ venue. venue.setup ≡ setup_of config.now) }
+        ensures setup { IfOk result (λ venue. plain_setup V.limit venue ≡ setup_of config.now) }
         ensures books { IfOk result (λ venue. venue.books ≡ books.items) }
     {
         let ticks = Vec::from_slice(alloc, config.ticks.as_slice())?;

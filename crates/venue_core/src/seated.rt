@@ -4,7 +4,7 @@ ghost use Rattle.venue_words.specs.Conditions.{fits_limits};
 ghost use Rattle.venue_words.specs.Floors.{is_configured};
 ghost use Rattle.venue_words.specs.Journals.{reports_of};
 ghost use Rattle.venue_core.specs.Turns.{Submits, Looks};
-ghost use Rattle.venue_core.specs.Venues.{AreSeatsOf};
+ghost use Rattle.venue_core.specs.Venues.{AreSeatsOf, setup_in};
 
 use crate::seats::Seats;
 use crate::venue::Venue;
@@ -37,7 +37,7 @@ fn submit_at<V: Held, R: Wait, L: Ledger>(
 ) -> Result<u32, FloorRefusal>
     requires seats { AreSeatsOf venue.now seats.old }
     requires symbol { symbol < length venue.now.gates }
-    requires configured { is_configured venue.now.setup command ≡ true }
+    requires configured { is_configured (setup_in venue.now) command ≡ true }
     requires limits { fits_limits command ≡ true }
     ensures { Submits V.step_limit seats.old seats.new symbol result feed moment command steps.old steps.new }
 {

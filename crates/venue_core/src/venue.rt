@@ -7,7 +7,7 @@ ghost use Rattle.turn_gate.specs.Numbers.{IncreasesWithin};
 ghost use Rattle.turn_gate.specs.Rule.{whole};
 ghost use Rattle.venue_core.specs.Closing.{IsBookOf};
 ghost use Rattle.venue_core.specs.Joining.{IsFirstSeat, HasOwnNumbers, after_split, split_off, all_joined};
-ghost use Rattle.venue_core.specs.Venues.{AreSeatsOf, TakesConfigured};
+ghost use Rattle.venue_core.specs.Venues.{AreSeatsOf, TakesConfigured, setup_in};
 
 use crate::calls;
 use crate::seats::Seats;
@@ -27,19 +27,15 @@ pub struct Venue<V: Held> {
 }
 
 impl<V: Held> Model for Venue<V> {
-    ghost use Rattle.std.specs.Prelude.{map};
     ghost use Rattle.std.specs.List.{All};
-    ghost use Rattle.venue_core.specs.Venues.{VenueId, TakesConfigured, setup_over};
+    ghost use Rattle.venue_core.specs.Venues.{VenueId, venue_id, setup_in, TakesConfigured};
 
     ghost Value = { VenueId };
 
-    ghost view = { λ venue. record {
-      setup = setup_over venue.members venue.markets venue.gates.items venue.ticks.items;
-      gates = venue.gates.items;
-    } };
+    ghost view = { λ venue. venue_id venue.members venue.markets venue.ticks.items venue.gates.items };
 
     ghost invariant = { λ venue. All (λ gate. TakesConfigured V.takes
-        (setup_over venue.members venue.markets venue.gates.items venue.ticks.items) gate.setting) venue.gates.items };
+        (setup_in (venue_id venue.members venue.markets venue.ticks.items venue.gates.items)) gate.setting) venue.gates.items };
 }
 
 impl<V: Held + Drop> Venue<V> {
@@ -53,7 +49,7 @@ impl<V: Held + Drop> Venue<V> {
         requires limits { map V.limit books.items ≡ config.now.limits }
         requires empty { All (λ book. V.journal book ≡ []) books.items }
         requires takes { All (λ book. TakesConfigured V.takes (setup_of config.now) (V.setting book)) books.items }
-        ensures setup { IfOk result (λ made. made.0.setup ≡ setup_of config.now) }
+        ensures setup { IfOk result (λ made. setup_in made.0 ≡ setup_of config.now) }
         ensures settings { IfOk result (λ made. map (λ gate. gate.setting) made.0.gates ≡ map V.setting books.items) }
 
         // The seats.
