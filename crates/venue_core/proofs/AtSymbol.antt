@@ -8,9 +8,13 @@ use Rattle.venue_core.proofs.Places.{get_read, get_map}
 pub symbol_within : {A : Type 0} (f : A → ℕ) (xs : List A) (i : ℕ) → i < length (map f xs) → i < length xs
 symbol_within f xs i lt = let h = length-map xs f in omega arith
 
+-- there are as many seats as gates
+pub seat_count : (gates : List GateId) (seats : List SeatState) → map (λ seat. seat.gate) seats ≡ gates → length seats ≡ length gates
+seat_count gates seats are = sym (length-map seats (λ (seat : SeatState). seat.gate)) ∙ ap length are
+
 -- a symbol of the gates is one of the seats
 pub seat_within : (gates : List GateId) (seats : List SeatState) (i : ℕ) → map (λ seat. seat.gate) seats ≡ gates → i < length gates → i < length seats
-seat_within gates seats i are lt = let h = length-map seats (λ (seat : SeatState). seat.gate) in let e = ap length are in omega arith
+seat_within gates seats i are lt = let e = seat_count gates seats are in omega arith
 
 -- the seat that was found is one of the gate that was found
 pub seat_and_gate : (gates items : List GateId) (seats list : List SeatState) (i : ℕ) (seat : SeatState) (gate : GateId)

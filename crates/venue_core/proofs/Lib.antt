@@ -1,4 +1,7 @@
 pub mod Answered
 pub mod AtSymbol
+pub mod Closes
+pub mod Joins
 pub mod Places
 pub mod Showing
+pub mod Splits

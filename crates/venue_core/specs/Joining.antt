@@ -4,12 +4,17 @@ use Rattle.turn_gate.specs.Numbers.{IncreasesWithin, merge_of}
 use Rattle.turn_gate.specs.Rule.{whole}
 use Rattle.turn_gate.specs.Seats.{SeatState}
 use Rattle.turn_gate.specs.Steps.{longer_of}
+use Rattle.venue_words.specs.Journals.{StartsWith}
 
 -- the one seat of a gate whose book has taken nothing
 pub record IsFirstSeat (seat : SeatState) : Type 0 where
   pub seen : seat.seen ≡ []
   pub mine : seat.mine ≡ []
   pub part : seat.part ≡ whole
+
+-- a seat has seen all that it had seen before, or that another one had
+abbrev pub HasSeenNoLess : SeatState → SeatState → Type 0
+HasSeenNoLess before after = StartsWith after.seen before.seen
 
 -- the seat's own numbers increase, and lie within what it has seen
 abbrev pub HasOwnNumbers : SeatState → Type 0

@@ -4,11 +4,9 @@ ghost use Rattle.std.specs.List.{All, AllZip};
 ghost use Rattle.std.specs.Vec.{vec_capacity};
 ghost use Rattle.venue_words.specs.Conditions.{fits_limits};
 ghost use Rattle.venue_words.specs.Floors.{is_configured};
-ghost use Rattle.venue_words.specs.Journals.{StartsWith};
-ghost use Rattle.turn_gate.specs.Numbers.{IncreasesWithin};
 ghost use Rattle.turn_gate.specs.Rule.{whole};
 ghost use Rattle.venue_core.specs.Closing.{IsBookOf};
-ghost use Rattle.venue_core.specs.Joining.{IsFirstSeat, HasOwnNumbers, after_split, split_off, all_joined};
+ghost use Rattle.venue_core.specs.Joining.{IsFirstSeat, HasSeenNoLess, HasOwnNumbers, after_split, split_off, all_joined};
 
 use std::alloc::Global;
 use turn_gate::{Gate, Seat};
@@ -53,7 +51,9 @@ pub(crate) fn split<V: Held>(
 {
     let mut new = Vec::with_capacity(alloc, gates.len())?;
     for i in 0..gates.len() {
-        new.push_reserved(gates[i].split(&mut seats[i]));
+        let seat = &mut seats[i];
+        let other = gates[i].split(seat);
+        new.push_reserved(other);
     }
     Ok(new)
 }
@@ -63,13 +63,14 @@ pub(crate) fn join<V: Held>(gates: &Vec<Gate<V>>, seats: &mut Vec<Seat>, other: 
     requires gates { map (λ seat. seat.gate) seats.old.items ≡ gates.now.items }
     requires other_gates { map (λ seat. seat.gate) other.items ≡ gates.now.items }
     ensures seats { seats.new.items ≡ all_joined seats.old.items other.items }
-    ensures seen { AllZip (λ seat joined. StartsWith joined.seen seat.seen) seats.old.items seats.new.items }
-    ensures other_seen { AllZip (λ seat joined. StartsWith joined.seen seat.seen) other.items seats.new.items }
+    ensures seen { AllZip HasSeenNoLess seats.old.items seats.new.items }
+    ensures other_seen { AllZip HasSeenNoLess other.items seats.new.items }
     ensures mine { All HasOwnNumbers seats.new.items }
 {
     let mut i = 0;
-    for seat in other {
-        gates[i].join(&mut seats[i], seat);
+    for one in other {
+        let seat = &mut seats[i];
+        gates[i].join(seat, one);
         i += 1;
     }
 }

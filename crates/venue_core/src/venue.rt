@@ -2,11 +2,9 @@
 ghost use Rattle.std.specs.Prelude.{◌≡◌, ◌<◌, [], map, IfOk, IfErr, OnErr};
 ghost use Rattle.std.specs.List.{All, AllZip};
 ghost use Rattle.venue_words.specs.Floors.{setup_of};
-ghost use Rattle.venue_words.specs.Journals.{StartsWith};
-ghost use Rattle.turn_gate.specs.Numbers.{IncreasesWithin};
 ghost use Rattle.turn_gate.specs.Rule.{whole};
 ghost use Rattle.venue_core.specs.Closing.{IsBookOf};
-ghost use Rattle.venue_core.specs.Joining.{IsFirstSeat, HasOwnNumbers, after_split, split_off, all_joined};
+ghost use Rattle.venue_core.specs.Joining.{IsFirstSeat, HasSeenNoLess, HasOwnNumbers, after_split, split_off, all_joined};
 ghost use Rattle.venue_core.specs.Venues.{AreSeatsOf, TakesConfigured, setup_in};
 
 use crate::calls;
@@ -87,8 +85,8 @@ impl<V: Held + Drop> Venue<V> {
         ensures seats { seats.new ≡ all_joined seats.old other }
 
         // The two had seen beginnings of one history, and no event was an own one of both.
-        ensures seen { AllZip (λ seat joined. StartsWith joined.seen seat.seen) seats.old seats.new }
-        ensures other_seen { AllZip (λ seat joined. StartsWith joined.seen seat.seen) other seats.new }
+        ensures seen { AllZip HasSeenNoLess seats.old seats.new }
+        ensures other_seen { AllZip HasSeenNoLess other seats.new }
         ensures mine { All HasOwnNumbers seats.new }
     {
         calls::join(&self.gates, &mut seats.list, other.list);
