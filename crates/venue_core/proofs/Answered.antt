@@ -34,3 +34,8 @@ module _ {A E : Type 0} where
   pub either_way : (r : Result A E) (P : A → Type 0) (X Y : Type 0) → ((a : A) → P a → Y) → (X → Y) → IfOk r P → OnErr r X → Y
   either_way (Ok a) P X Y f g p x = f a p
   either_way (Err e) P X Y f g p x = g x
+
+  -- what an error says, where the same holds at each error
+  pub err_with : (r : Result A E) (P Q : E → Type 0) (X : Type 0) → ((e : E) → P e → X → Q e) → IfErr r P → OnErr r X → IfErr r Q
+  err_with (Ok a) P Q X f p x = p
+  err_with (Err e) P Q X f p x = f e p x

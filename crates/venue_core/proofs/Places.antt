@@ -1,4 +1,6 @@
 -- One element of a list is replaced.
+use Rattle.std.specs.List.{All}
+use Rattle.std.proofs.lemmas.List.Elements.{All-head, All-tail}
 use Rattle.std.proofs.Common.{◌≡◌, ◌≢◌, ℕ, zero, suc, ◌<◌, List, [], ◌∷◌, map, length, set, get_or, sym, refl, ap, ◌∙◌, subst, arith, Some, slice_get}
 
 module _ {A : Type 0} where
@@ -42,3 +44,8 @@ module _ {A : Type 0} where
   within [] i x at = absurd (cc)
   within (z ∷ zs) zero x at = omega arith
   within (z ∷ zs) (suc i) x at = let h = within zs i x at in omega arith
+
+  pub holds_at : (P : A → Type 0) (xs : List A) (i : ℕ) (x : A) → slice_get xs i ≡ Some x → All P xs → P x
+  holds_at P [] i x at all = absurd (cc)
+  holds_at P (y ∷ ys) zero x at all = let e : y ≡ x = (cc) in subst P e (All-head P y ys all)
+  holds_at P (y ∷ ys) (suc i) x at all = holds_at P ys i x at (All-tail P y ys all)

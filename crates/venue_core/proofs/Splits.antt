@@ -1,7 +1,5 @@
 -- One seat after another is split.
 use Rattle.std.proofs.Common.{◌≡◌, ℕ, zero, suc, ◌+◌, ◌<◌, List, [], ◌∷◌, ◌++◌, map, length, set, get_or, take, sym, refl, ap, ◌∙◌, subst, arith, Some, slice_get, add-one}
-use Rattle.std.specs.List.{All}
-use Rattle.std.proofs.lemmas.List.Elements.{All-head, All-tail}
 use Rattle.turn_gate.specs.Seats.{GateId, SeatState}
 use Rattle.venue_core.specs.Joining.{after_split, split_off}
 use Rattle.venue_core.proofs.AtSymbol.{seat_within}
@@ -47,11 +45,6 @@ takes_next n seats p at = sym (more_taken n seats p at) ∙ ap (λ (m : ℕ). ma
 pub all_split : (seats : List SeatState) (n : ℕ) → n ≡ length seats → first_split n seats ≡ map after_split seats
 all_split [] n is = refl
 all_split (seat ∷ seats) n is = subst (λ (m : ℕ). first_split m (seat ∷ seats) ≡ map after_split (seat ∷ seats)) (sym is) (ap (λ (zs : List SeatState). after_split seat ∷ zs) (all_split seats (length seats) refl))
-
-pub holds_at : {A : Type 0} (P : A → Type 0) (xs : List A) (i : ℕ) (x : A) → slice_get xs i ≡ Some x → All P xs → P x
-holds_at P [] i x at all = absurd (cc)
-holds_at P (y ∷ ys) zero x at all = let e : y ≡ x = (cc) in subst P e (All-head P y ys all)
-holds_at P (y ∷ ys) (suc i) x at all = holds_at P ys i x at (All-tail P y ys all)
 
 -- the seat that is found at n is the n-th of the seats, and of the n-th gate
 pub found : (n : ℕ) (gates : List GateId) (seats now : List SeatState) (p : SeatState) (gate : GateId)

@@ -3,6 +3,7 @@ ghost use Rattle.std.specs.Prelude.{◌≡◌, ◌<◌, true, length, map, slice
 ghost use Rattle.std.specs.List.{All};
 ghost use Rattle.venue_words.specs.Conditions.{fits_limits};
 ghost use Rattle.venue_words.specs.Floors.{setup_of, is_configured};
+ghost use Rattle.venue_core.specs.Plain.{SubmitsTo};
 ghost use Rattle.venue_core.specs.Venues.{TakesConfigured, plain_setup};
 
 use std::alloc::Global;
@@ -62,5 +63,49 @@ impl<V: Held + Drop> PlainVenue<V> {
         ensures { slice_get self.now.books symbol ≡ Some result.now }
     {
         &self.books[symbol as usize]
+    }
+}
+
+fn submit_to<V: Held, L: Ledger>(
+    books: &mut Vec<V>,
+    symbol: u32,
+    feed: u32,
+    moment: i64,
+    command: Command,
+    steps: &mut Steps<L>,
+) -> Result<u32, FloorRefusal>
+    requires symbol { symbol < length books.old.items }
+    requires takes { All (λ book. V.takes (V.setting book) command ≡ true) books.old.items }
+    ensures { SubmitsTo V.journal V.limit V.setting V.step_limit books.old.items books.new.items symbol result
+        feed moment command steps.old steps.new }
+{
+    let book = &mut books[symbol as usize];
+    book.submit(feed, moment, command, steps)
+}
+
+impl<V: Held> Floor for PlainVenue<V> {
+    ghost use Rattle.std.specs.Prelude.{slice_get};
+    ghost use Rattle.venue_core.specs.Marks.{plain_mark, setting_in};
+    ghost use Rattle.venue_core.specs.Shown.{shown_by_book};
+
+    ghost mark = { λ venue. plain_mark V.limit V.setting venue };
+
+    ghost at = { λ venue symbol. shown_by_book V.journal V.setting V.reports (slice_get venue.books symbol) };
+
+    ghost step_limit = { λ mark symbol. V.step_limit (setting_in mark symbol) };
+
+    fn submit<L: Ledger>(
+        &mut self,
+        symbol: u32,
+        feed: u32,
+        moment: i64,
+        command: Command,
+        steps: &mut Steps<L>,
+    ) -> Result<u32, FloorRefusal> {
+        submit_to(&mut self.books, symbol, feed, moment, command, steps)
+    }
+
+    fn reports_after(&mut self, symbol: u32, member: u32, from: u32) -> Result<Look, NoMemory> {
+        self.books[symbol as usize].look(member, from)
     }
 }

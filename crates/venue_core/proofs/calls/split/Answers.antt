@@ -2,7 +2,8 @@
 use Rattle.std.proofs.Common.{◌≡◌, ◌<◌, [], ◌∷◌, ◌++◌, set, ◌∙◌, arith}
 use Rattle.turn_gate.specs.Seats.{SeatState}
 use Rattle.venue_core.proofs.AtSymbol.{seat_count}
-use Rattle.venue_core.proofs.Splits.{none_split, found, splits_next, takes_next, all_split, holds_at}
+use Rattle.venue_core.proofs.Places.{holds_at}
+use Rattle.venue_core.proofs.Splits.{none_split, found, splits_next, takes_next, all_split}
 use Rattle.venue_core.proofs.calls.split.Goals as goal
 
 pub loop-i-init : goal.loop-i-init
