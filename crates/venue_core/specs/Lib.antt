@@ -1,0 +1,7 @@
+pub mod Closing
+pub mod Joining
+pub mod Marks
+pub mod Plain
+pub mod Shown
+pub mod Turns
+pub mod Venues
