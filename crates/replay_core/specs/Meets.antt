@@ -1,9 +1,10 @@
 -- A call that may want memory.
-use Rattle.std.specs.Prelude.{Result}
-use Rattle.script_text.specs.Meets.{MeetsUnless}
-use Rattle.replay_core.specs.declared.fault.Fault.{Fault}
-use Rattle.replay_core.specs.declared.fault.Fault.TheVariants.{NoMemory}
+use Rattle.std.specs.Prelude.{◌≡◌, ◌⊎◌, ◌≤◌, ◌+◌, ℕ, List, Result, Ok, Err, MatchResult}
+use Rattle.script_text.specs.declared.fault.LineFault.{LineFault}
+use Rattle.script_text.specs.declared.fault.LineFault.TheVariants.{NoMemory}
 
--- the answer, as it is seen, is the one that is meant, or memory was wanted
-abbrev pub MeetsBy : {T V : Type 0} → (T → V) → Result V Fault → Result T Fault → Type 0
-MeetsBy view meant result = MeetsUnless NoMemory view meant result
+-- what was made, with its output, stands for what is meant; or memory was wanted, or the fault is the one that is meant
+abbrev pub Meets : {T V : Type 0} → (T → V → Type 0) → Result (V × List ℕ) LineFault → Result T LineFault → List ℕ → Type 0
+Meets {T} {V} stands meant result text =
+    MatchResult result (λ made. (behind : V) × (meant ≡ Ok (behind, text)) × stands made behind)
+    (λ fault. (fault ≡ NoMemory) ⊎ (meant ≡ Err fault))

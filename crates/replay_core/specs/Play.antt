@@ -3,111 +3,132 @@ use Rattle.std.specs.Prelude.{ℕ, ◌+◌, Bool, true, false, List, [], ◌∷�
 use Rattle.script_text.specs.Header.{header_line, blank, longest_line}
 use Rattle.script_text.specs.Lines.{cut}
 use Rattle.script_text.specs.declared.header.Header.{Header}
-use Rattle.replay_core.specs.declared.fault.Fault.{Fault}
-use Rattle.replay_core.specs.declared.fault.Fault.TheVariants.{Bad, Limit, Unbuilt, NoMemory}
 use Rattle.script_text.specs.declared.fault.LineFault.{LineFault}
-use Rattle.replay_core.specs.Faults.{fault_of}
+use Rattle.script_text.specs.declared.fault.LineFault.TheVariants.{Bad, Limit, NoMemory}
 use Rattle.script_text.specs.declared.fault.LineCause.TheVariants.{NoEnd}
 use Rattle.script_text.specs.declared.fault.LimitCause.{LimitCause}
 use Rattle.script_text.specs.declared.fault.LimitCause.TheVariants.{Line, Bytes}
-use Rattle.replay_core.specs.Player.{Playing, play_line, player_of}
-use Rattle.replay_core.specs.declared.phase.Phase.{Phase}
-use Rattle.replay_core.specs.declared.phase.Phase.TheVariants.{Head, Body}
+use Rattle.replay_core.specs.Playing.{Playing, before_body}
+use Rattle.replay_core.specs.PlayLine.{Answer, play_line}
 
 -- the most bytes of a script
 abbrev pub longest_script : ℕ
 longest_script = 1073741824
 
+-- in the header, or behind it
+pub data Stage : Type 0 where
+  Head : Header → Stage
+  Body : Playing → Stage
+
 -- a place between two lines: the lines and the bytes before it
 pub record Place : Type 0 where
-  pub phase : Phase
+  pub stage : Stage
   pub lines : ℕ
   pub bytes : ℕ
 
--- the output of a script, and why it ends before the script does
+-- what a script makes: its output, why it ends before the script does, the most steps that its events may take, and the
+-- player at its end, where it has one
 pub record Played : Type 0 where
   pub text : List ℕ
-  pub fault : Option Fault
+  pub fault : Option LineFault
+  pub steps : ℕ
+  pub last : Option Playing
 
-abbrev pub stopped : Fault → Played
-stopped fault = record { text = []; fault = Some fault }
+abbrev pub stopped : LineFault → Played
+stopped fault = record { text = []; fault = Some fault; steps = 0; last = None }
 
-abbrev pub finished : Played
-finished = record { text = []; fault = None }
+abbrev pub finished : Playing → Played
+finished playing = record { text = []; fault = None; steps = 0; last = Some playing }
 
--- this output, and then the rest
-abbrev pub onto : List ℕ → Played → Played
-onto text played = record { text = text ++ played.text; fault = played.fault }
+-- this output and these steps, and then the rest
+abbrev pub onto : List ℕ → ℕ → Played → Played
+onto text steps played = record played { text = text ++ played.text; steps = steps + played.steps }
 
--- what the next phase is, with the line's output
-abbrev pub Turned : Type 0
-Turned = Result (Phase × List ℕ) Fault
+-- what a line comes to: the next stage with the line's output, or why it is refused; and the most steps of its events
+pub record Turned : Type 0 where
+  pub result : Result (Stage × List ℕ) LineFault
+  pub steps : ℕ
 
-abbrev pub after_header : ℕ → Result (Bool × Header) LineFault → Turned
-after_header n (Ok x) = Ok (if x.0 then Body (player_of x.1.config n) else Head x.1, [])
-after_header n (Err refused) = Err (fault_of refused)
+abbrev pub after_header : Result (Bool × Header) LineFault → Result (Stage × List ℕ) LineFault
+after_header (Ok x) = Ok (if x.0 then Body (before_body x.1.config) else Head x.1, [])
+after_header (Err fault) = Err fault
 
-abbrev pub after_body : Result (Playing × List ℕ) Fault → Turned
+abbrev pub after_body : Result (Playing × List ℕ) LineFault → Result (Stage × List ℕ) LineFault
 after_body (Ok x) = Ok (Body x.0, x.1)
 after_body (Err fault) = Err fault
 
--- the n-th line in a phase
-abbrev pub turned : ℕ → Phase → List ℕ → Turned
-turned n (Head header) text = after_header n (header_line n header text)
-turned n (Body player) text = after_body (play_line player text)
+abbrev pub turned_body : Answer → Turned
+turned_body answer = record { result = after_body answer.result; steps = answer.steps }
 
--- what a line that holds the byte past the limit comes to: a bad line, one that is not built and a long one come first
+-- the n-th line at a stage
+unfoldable pub turned : ℕ → Stage → List ℕ → Turned
+turned n (Head header) text = record { result = after_header (header_line n header text); steps = 0 }
+turned n (Body playing) text = turned_body (play_line n playing text)
+
+-- what a line that holds the byte past the limit comes to: a bad line and a long one come first
 abbrev pub over_limit : LimitCause → LimitCause
 over_limit Line = Line
 over_limit _ = Bytes
 
-abbrev pub over_fault : Fault → Fault
+abbrev pub over_fault : LineFault → LineFault
 over_fault (Bad line cause) = Bad line cause
 over_fault (Limit line which) = Limit line (over_limit which)
-over_fault (Unbuilt line) = Unbuilt line
 over_fault NoMemory = NoMemory
 
-abbrev pub over : ℕ → Turned → Fault
+abbrev pub over : ℕ → Result (Stage × List ℕ) LineFault → LineFault
 over n (Ok x) = Limit n Bytes
 over n (Err fault) = over_fault fault
 
-abbrev pub next_place : Place → List ℕ → Phase → Place
-next_place place text phase = record {
-  phase = phase;
-  lines = place.lines + 1;
-  bytes = place.bytes + length text + 1;
-}
+-- the place behind a line, with the line's output; or why the line is refused
+pub record Stepped : Type 0 where
+  pub result : Result (Place × List ℕ) LineFault
+  pub steps : ℕ
 
--- the place behind a line, with the line's output
-abbrev pub Stepped : Type 0
-Stepped = Result (Place × List ℕ) Fault
+abbrev pub next_place : Place → List ℕ → Stage → Place
+next_place place text stage =
+    record { stage = stage; lines = place.lines + 1; bytes = place.bytes + length text + 1 }
 
-abbrev pub stepped : Place → List ℕ → Turned → Stepped
-stepped place text (Ok x) = Ok (next_place place text x.0, x.1)
-stepped place text (Err fault) = Err fault
+abbrev pub placed : Place → List ℕ → Result (Stage × List ℕ) LineFault → Result (Place × List ℕ) LineFault
+placed place text (Ok x) = Ok (next_place place text x.0, x.1)
+placed place text (Err fault) = Err fault
 
 abbrev pub weighed : Place → List ℕ → Turned → Stepped
-weighed place text answer = if nat_lt longest_script (place.bytes + length text + 1)
-    then Err (over (place.lines + 1) answer) else stepped place text answer
+weighed place text turned =
+    record {
+      result =
+          if nat_lt longest_script (place.bytes + length text + 1)
+          then Err (over (place.lines + 1) turned.result)
+          else placed place text turned.result;
+      steps = turned.steps;
+    }
+
+abbrev pub refused_at : Place → LineFault → Stepped
+refused_at place fault = record { result = Err fault; steps = 0 }
 
 -- the line behind a place
 unfoldable pub step_at : Place → List ℕ → Stepped
-step_at place text = if nat_lt longest_line (length text) then Err (Limit (place.lines + 1) Line)
-    else weighed place text (turned (place.lines + 1) place.phase text)
+step_at place text =
+    if nat_lt longest_line (length text)
+    then refused_at place (Limit (place.lines + 1) Line)
+    else weighed place text (turned (place.lines + 1) place.stage text)
 
--- a script is at its end where it has a whole header and no further byte
-abbrev pub is_end : Phase → List ℕ → Bool
-is_end (Body player) [] = true
-is_end _ _ = false
+-- what stands behind the last line: a script is at its end where it has a whole header and no further byte
+abbrev pub end_of : ℕ → Stage → List ℕ → Played
+end_of n (Body playing) [] = finished playing
+end_of n _ _ = stopped (Bad n NoEnd)
 
--- what stands behind the last line
 unfoldable pub end_at : Place → List ℕ → Played
-end_at place rest = if nat_lt longest_line (length rest) then stopped (Limit (place.lines + 1) Line)
-    else if is_end place.phase rest then finished else stopped (Bad (place.lines + 1) NoEnd)
+end_at place rest =
+    if nat_lt longest_line (length rest)
+    then stopped (Limit (place.lines + 1) Line)
+    else end_of (place.lines + 1) place.stage rest
+
+abbrev pub after_result : ℕ → Result (Place × List ℕ) LineFault → (Place → Played) → Played
+after_result steps (Ok x) next = onto x.1 steps (next x.0)
+after_result steps (Err fault) next = onto [] steps (stopped fault)
 
 abbrev pub after_line : Stepped → (Place → Played) → Played
-after_line (Ok x) next = onto x.1 (next x.0)
-after_line (Err fault) next = stopped fault
+after_line stepped next = after_result stepped.steps stepped.result next
 
 -- the lines from a place on, and what stands behind them
 unfoldable pub play : Place → List (List ℕ) → List ℕ → Played
@@ -120,7 +141,7 @@ played place text = play place (cut text).lines (cut text).rest
 
 -- the place before a script
 abbrev pub start : Place
-start = record { phase = Head blank; lines = 0; bytes = 0 }
+start = record { stage = Head blank; lines = 0; bytes = 0 }
 
 -- a whole script
 abbrev pub script : List ℕ → Played

@@ -1,33 +1,43 @@
--- What a sink is told of a script, up to the present place or to a status.
-use Rattle.std.specs.Prelude.{◌≡◌, ℕ, List, [], ◌++◌, Option, Some, None, MatchOption}
+-- What a sink is told of a script, up to the present place or to a status, and the steps that were counted by then.
+use Rattle.std.specs.Prelude.{◌≡◌, ◌≤◌, ◌+◌, ℕ, List, [], ◌++◌, Option, Some, None, MatchOption}
 use Rattle.std.specs.Io.KnownBytes.{Appends, Consumes}
 use Rattle.io_edge.specs.Grows.{AppendsPrefix}
-use Rattle.replay_core.specs.declared.fault.Fault.{Fault}
-use Rattle.replay_core.specs.declared.fault.Fault.TheVariants as fault
+use Rattle.script_text.specs.declared.fault.LineFault.{LineFault}
+use Rattle.script_text.specs.declared.fault.LineFault.TheVariants as fault
 use Rattle.replay_core.specs.Play.{Played, onto, stopped, script, played, start}
 use Rattle.replay_core.specs.Statuses.{status_of}
 use Rattle.replay_core.specs.declared.status.Status.{Status}
-use Rattle.replay_core.specs.declared.status.Status.TheVariants.{Done, BadWords, BadLine, LimitLine, Unbuilt, ReadFault, WriteFault, NoMemory}
+use Rattle.replay_core.specs.declared.status.Status.TheVariants.{Done, BadWords, BadLine, LimitLine, ReadFault, WriteFault, NoMemory}
 
--- However the text goes on, what it makes is what was told between old and new, and then
--- what it makes after.
-pub record Leads (old new : Option (List ℕ)) (before after : List ℕ → Played) : Type 0 where
-  pub done : List ℕ
-  pub grew : Appends old new done
-  pub goes : (more : List ℕ) → before more ≡ onto done (after more)
+-- the bytes that a sink tells, and the steps that were counted
+pub record Seen : Type 0 where
+  pub told : Option (List ℕ)
+  pub steps : ℕ
 
--- However the text goes on, what was told is the front of what it makes.
-pub record Begins (old new : Option (List ℕ)) (before : List ℕ → Played) : Type 0 where
+abbrev pub seen : Option (List ℕ) → ℕ → Seen
+seen told steps = record { told = told; steps = steps }
+
+-- However the text goes on, what it makes is what was told between old and new, and then what it makes after; and no more
+-- steps were counted than are allowed for that.
+pub record Leads (old new : Seen) (before after : List ℕ → Played) : Type 0 where
   pub done : List ℕ
-  pub grew : Appends old new done
+  pub grew : Appends old.told new.told done
+  pub spent : ℕ
+  pub counted : new.steps ≤ old.steps + spent
+  pub goes : (more : List ℕ) → before more ≡ onto done spent (after more)
+
+-- However the text goes on, what was told is the front of what it makes, and no more steps were counted than it may take.
+pub record Begins (old new : Seen) (before : List ℕ → Played) : Type 0 where
+  pub done : List ℕ
+  pub grew : Appends old.told new.told done
   pub behind : List ℕ → List ℕ
   pub goes : (more : List ℕ) → (before more).text ≡ done ++ behind more
+  pub counted : (more : List ℕ) → new.steps ≤ old.steps + (before more).steps
 
 -- what was told by the time of an early end
-abbrev pub Halts : Option (List ℕ) → Option (List ℕ) → (List ℕ → Played) → Status → Type 0
+abbrev pub Halts : Seen → Seen → (List ℕ → Played) → Status → Type 0
 Halts old new before (BadLine line cause) = Leads old new before (λ _. stopped (fault.Bad line cause))
 Halts old new before (LimitLine line which) = Leads old new before (λ _. stopped (fault.Limit line which))
-Halts old new before (Unbuilt line) = Leads old new before (λ _. stopped (fault.Unbuilt line))
 Halts old new before WriteFault = Begins old new before
 Halts old new before NoMemory = Begins old new before
 Halts old new before _ = ⊥
@@ -47,20 +57,23 @@ Outcome bytes old new left (BadLine line cause) =
     Appends old new (script bytes).text × ((script bytes).fault ≡ Some (fault.Bad line cause))
 Outcome bytes old new left (LimitLine line which) =
     Appends old new (script bytes).text × ((script bytes).fault ≡ Some (fault.Limit line which))
-Outcome bytes old new left (Unbuilt line) =
-    Appends old new (script bytes).text × ((script bytes).fault ≡ Some (fault.Unbuilt line))
 Outcome bytes old new left ReadFault = GaveUp bytes old new left
 Outcome bytes old new left WriteFault = AppendsPrefix old new (script bytes).text
 Outcome bytes old new left NoMemory = AppendsPrefix old new (script bytes).text
 Outcome bytes old new left BadWords = ⊥
 
+-- the same, and no more steps were counted than the script's events may take
+pub record Ran (bytes : List ℕ) (old new : Seen) (left : Option (List ℕ)) (status : Status) : Type 0 where
+  pub outcome : Outcome bytes old.told new.told left status
+  pub steps : new.steps ≤ old.steps + (script bytes).steps
+
 -- in the middle of a script: some bytes were taken, what they make was told, and the rest is ahead
-pub record Underway (first left old new : Option (List ℕ)) (ahead : List ℕ → Played) : Type 0 where
+pub record Underway (first left : Option (List ℕ)) (old new : Seen) (ahead : List ℕ → Played) : Type 0 where
   pub given : List ℕ
   pub taken : Consumes first left given
   pub leads : Leads old new (λ more. played start (given ++ more)) ahead
 
 -- the status at the end of a script
-abbrev pub ending : Option Fault → Status
+abbrev pub ending : Option LineFault → Status
 ending None = Done
 ending (Some fault) = status_of fault
