@@ -1,0 +1,4 @@
+pub mod Over
+pub mod OneByOne
+pub mod DeskWork
+pub mod FloorWork

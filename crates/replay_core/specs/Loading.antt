@@ -6,7 +6,6 @@ use Rattle.venue_words.specs.declared.report.Kind.{Kind}
 use Rattle.venue_words.specs.declared.report.Kind.TheVariants.{Accepted, Traded, Canceled, Replaced, Rejected, Status as Shown, Unknown, Refused}
 use Rattle.venue_words.specs.declared.report.Report.{Report}
 use Rattle.eager_meaning.specs.State.{State, resting}
-use Rattle.eager_meaning.specs.Step.{runs}
 use Rattle.eager_meaning.specs.Work.{groups}
 use Rattle.io_edge.specs.Grows.{AppendsPrefix}
 use Rattle.std.specs.Io.KnownBytes.{Appends}
@@ -14,7 +13,7 @@ use Rattle.std.specs.Prelude.{◌≡◌}
 use Rattle.script_text.specs.Load.{load_lines}
 use Rattle.script_text.specs.declared.fault.LineFault.TheVariants as fault
 use Rattle.replay_core.specs.Play.{Played, play, start}
-use Rattle.replay_core.specs.Playing.{Playing, journal_at}
+use Rattle.replay_core.specs.Playing.{Playing, journal_at, run_in}
 use Rattle.replay_core.specs.declared.status.Status.{Status}
 use Rattle.replay_core.specs.declared.status.Status.TheVariants.{Done, BadWords, BadLine, LimitLine, ReadFault, WriteFault, NoMemory}
 
@@ -94,8 +93,7 @@ counted events reports state =
 unfoldable pub summary_of : Playing → Summary
 summary_of playing =
     let journal = journal_at playing.journals 0 in
-    let run = runs (length playing.config.markets) (slice_index playing.config.ticks 0) journal in
-    counted (length journal) run.reports run.state
+    counted (length journal) (run_in playing.config 0 journal).reports (run_in playing.config 0 journal).state
 
 abbrev pub labelled : List ℕ → ℕ → List ℕ → List ℕ
 labelled label number rest = label ++ (decimal number ++ rest)

@@ -4,16 +4,20 @@ use Rattle.std.specs.List.{range_with_len}
 use Rattle.venue_words.specs.declared.config.Config.{Config}
 use Rattle.venue_words.specs.declared.command.Event.{Event}
 use Rattle.venue_words.specs.Floors.{FloorMark, SymbolView, setup_of}
-use Rattle.replay_core.specs.Playing.{journal_at, reports_in}
+use Rattle.eager_meaning.specs.State.{State}
+use Rattle.eager_meaning.specs.Step.{Run}
+use Rattle.replay_core.specs.Playing.{journal_at, run_in, reports_in}
 use Rattle.replay_core.specs.Recording.{most_steps}
 
--- the floors of this mark are set up with the config: every event is an own one, the reports are those of the journal, and
--- it is said how many steps an event may take
-pub record IsPlain {F : Type 0} (mark_of : F → FloorMark) (at : F → ℕ → SymbolView) (step_limit : FloorMark → ℕ → List Event → Event → Option ℕ) (config : Config) (mark : FloorMark) : Type 0 where
+-- the floors of this mark are set up with the config: every event is an own one, the reports and the state of a symbol's
+-- book are those of its journal, and it is said how many steps an event may take
+pub record IsPlain {F : Type 0} (mark_of : F → FloorMark) (at : F → ℕ → SymbolView) (step_limit : FloorMark → ℕ → List Event → Event → Option ℕ) (state : F → ℕ → State) (config : Config) (mark : FloorMark) : Type 0 where
   pub setup : mark.setup ≡ setup_of config
   pub own : (floor : F) (symbol : ℕ) → (at floor symbol).mine ≡ range_with_len 1 (length (at floor symbol).journal)
   pub reports : (floor : F) (symbol : ℕ) → mark_of floor ≡ mark → symbol < length config.symbols
       → (at floor symbol).reports ≡ reports_in config symbol (at floor symbol).journal
+  pub states : (floor : F) (symbol : ℕ) → mark_of floor ≡ mark → symbol < length config.symbols
+      → state floor symbol ≡ (run_in config symbol (at floor symbol).journal).state
   pub steps : (symbol : ℕ) (journal : List Event) (event : Event) → symbol < length config.symbols
       → step_limit mark symbol journal event ≡ Some (most_steps config symbol journal event)
   pub counted : (symbol : ℕ) (journal : List Event) (event : Event)

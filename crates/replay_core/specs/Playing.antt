@@ -4,7 +4,7 @@ use Rattle.std.specs.List.{range_with_len}
 use Rattle.venue_words.specs.declared.config.Config.{Config}
 use Rattle.venue_words.specs.declared.command.Event.{Event}
 use Rattle.venue_words.specs.declared.report.Report.{Report}
-use Rattle.eager_meaning.specs.Step.{runs}
+use Rattle.eager_meaning.specs.Step.{Run, runs}
 use Rattle.session_core.specs.Machine.{Machine, fresh}
 use Rattle.member_gate.specs.Answering.{name_at}
 
@@ -46,9 +46,12 @@ member_at playing number = unwrap_or (slice_get playing.members number) (new_mem
 abbrev pub journal_at : List (List Event) → ℕ → List Event
 journal_at journals symbol = unwrap_or (slice_get journals symbol) []
 
--- the reports that a symbol's journal makes
-unfoldable pub reports_in : Config → ℕ → List Event → List Report
-reports_in config symbol journal = (runs (length config.markets) (slice_index config.ticks symbol) journal).reports
+-- what a symbol's journal makes: the state of its book, and all reports
+unfoldable pub run_in : Config → ℕ → List Event → Run
+run_in config symbol journal = runs (length config.markets) (slice_index config.ticks symbol) journal
+
+abbrev pub reports_in : Config → ℕ → List Event → List Report
+reports_in config symbol journal = (run_in config symbol journal).reports
 
 -- the reports of a symbol so far
 abbrev pub reports_at : Config → List (List Event) → ℕ → List Report

@@ -3,10 +3,9 @@ use Rattle.std.specs.Prelude.{ℕ, ◌+◌, ℤ, Bool, true, false, nat_lt, if�
 use Rattle.venue_words.specs.declared.config.Config.{Config}
 use Rattle.venue_words.specs.declared.command.Event.{Event}
 use Rattle.venue_words.specs.Journals.{event}
-use Rattle.eager_meaning.specs.Step.{runs}
 use Rattle.eager_meaning.specs.Work.{bound}
 use Rattle.member_gate.specs.Answering.{Submission}
-use Rattle.replay_core.specs.Playing.{journal_at}
+use Rattle.replay_core.specs.Playing.{journal_at, run_in}
 
 -- the journals behind commands, the most steps that these may take, and whether one of them found its journal full: it
 -- and the commands behind it are in no journal
@@ -31,8 +30,7 @@ with_event moment one journals =
 -- the most steps that an event behind a symbol's journal may take
 unfoldable pub most_steps : Config → ℕ → List Event → Event → ℕ
 most_steps config symbol journal event =
-    let tick = slice_index config.ticks symbol in
-    bound tick (runs (length config.markets) tick journal).state event.number event.command
+    bound (slice_index config.ticks symbol) (run_in config symbol journal).state event.number event.command
 
 abbrev pub none_recorded : List (List Event) → Bool → Recorded
 none_recorded journals is_full = record { journals = journals; steps = 0; is_full = is_full }

@@ -1,7 +1,11 @@
 //! The whole of a replay: a script from a shelf, its transcript to a sink, and a status with its text.
 #![tactic(auto)]
 
+pub mod output;
 pub mod phase;
+pub mod plain_floor;
 pub mod player;
+pub mod pulling;
 pub mod reading;
 pub mod status;
+pub mod ticking;

@@ -4,11 +4,12 @@ ghost use Rattle.std.specs.Prelude.{◌≡◌, ◌<◌, ◌≤◌, ◌+◌, ◌^
 use member_gate::Desk;
 use std::alloc::Global;
 use std::marker::Model;
-use venue_words::{Config, Floor};
+use crate::plain_floor::PlainFloor;
+use venue_words::Config;
 
 /// Works the lines behind a header, over any floor of one thread.
 #[derive(Drop)]
-pub struct Player<F: Floor> {
+pub struct Player<F: PlainFloor> {
     alloc: Global,
     config: Config,
     floor: F,
@@ -18,7 +19,7 @@ pub struct Player<F: Floor> {
     moment: i64,
 }
 
-impl<F: Floor> Model for Player<F> {
+impl<F: PlainFloor> Model for Player<F> {
     ghost use Rattle.venue_words.specs.Conditions.{IsConfig};
     ghost use Rattle.replay_core.specs.PlainFloor.{IsPlain};
     ghost use Rattle.replay_core.specs.Stages.{Kept, kept_of, AreDesks};
@@ -27,5 +28,5 @@ impl<F: Floor> Model for Player<F> {
 
     ghost view = { λ p. kept_of p.config p.floor p.desks.items p.moment };
 
-    ghost invariant = { λ p. IsConfig p.config × IsPlain F.mark F.at F.step_limit p.config (F.mark p.floor) × AreDesks p.config p.desks.items };
+    ghost invariant = { λ p. IsConfig p.config × IsPlain F.mark F.at F.step_limit F.state p.config (F.mark p.floor) × AreDesks p.config p.desks.items };
 }

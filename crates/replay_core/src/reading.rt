@@ -3,12 +3,12 @@ ghost use Rattle.std.specs.Prelude.{◌≡◌, ◌≤◌, ◌<◌, false, true, 
 ghost use Rattle.script_text.specs.Lines.{has_end};
 
 use crate::phase::Phase;
+use crate::plain_floor::PlainFloor;
 use std::alloc::Global;
-use venue_words::Floor;
 
 /// A script in the middle: its whole lines were worked, and the bytes behind them are held.
 #[derive(Drop)]
-pub struct Reader<F: Floor> {
+pub struct Reader<F: PlainFloor> {
     pub alloc: Global,
     pub phase: Phase<F>,
     pub lines: u32,
