@@ -249,8 +249,17 @@ parts_more : (config : Config) (moment : ℤ) (x : Submission) (xs ys : List Sub
     → has_room config journals x.symbol ≡ true → Parts config moment xs ys (with_event moment x journals)
     → Parts config moment (x ∷ xs) ys journals
 parts_more config moment x xs ys journals room p =
-    rw (recorded_first config moment x (xs ++ ys) journals room, recorded_first config moment x xs journals room)
-    (record { full = p.full; steps = omega (arith, p.steps) })
+    let both = recorded_first config moment x (xs ++ ys) journals room in
+    let first = recorded_first config moment x xs journals room in
+    let all : (recorded config moment (x ∷ (xs ++ ys)) journals).steps ≡ _ = ap (λ (r : Recorded). r.steps) both in
+    let some : (recorded config moment (x ∷ xs) journals).steps ≡ _ = ap (λ (r : Recorded). r.steps) first in
+    let rest : (recorded config moment ys (recorded config moment (x ∷ xs) journals).journals).steps ≡ _ =
+        ap (λ (r : Recorded). (recorded config moment ys r.journals).steps) first in
+    record {
+      full = ap (λ (r : Recorded). r.is_full) both ∙ p.full
+          ∙ sym (ap (λ (r : Recorded). (recorded config moment ys r.journals).is_full) first);
+      steps = omega (arith, p.steps, all, some, rest);
+    }
 
 pub recorded_append : (config : Config) (moment : ℤ) (xs ys : List Submission) (journals : List (List Event))
     → (recorded config moment xs journals).is_full ≡ false → Parts config moment xs ys journals

@@ -2,3 +2,8 @@ pub mod Over
 pub mod OneByOne
 pub mod DeskWork
 pub mod FloorWork
+pub mod PieceWork
+pub mod Standing
+pub mod Submitted
+pub mod Fresh
+pub mod ReadLine

@@ -1,6 +1,7 @@
 -- What a line of a body does before reports go out.
 use Rattle.std.specs.Prelude.{ℕ, ℤ, List, [], ◌∷◌, ◌++◌, length, drop, map, slice_set}
 use Rattle.std.specs.List.{flat_map}
+use Rattle.venue_words.specs.declared.command.Command.{Command}
 use Rattle.venue_words.specs.declared.config.Config.{Config}
 use Rattle.fix_frames.specs.declared.reading.Reading.{Reading}
 use Rattle.fix_frames.specs.Reading.{reading_of}
@@ -11,6 +12,7 @@ use Rattle.script_text.specs.declared.body.Line.{Line}
 use Rattle.script_text.specs.declared.body.Line.TheVariants.{Moment, Quote, Piece, Open}
 use Rattle.replay_core.specs.Output.{frame_lines}
 use Rattle.replay_core.specs.Playing.{Playing, Member, member_at}
+use Rattle.replay_core.specs.Recording.{Recorded, recorded}
 
 -- the player behind a line, the lines of output, and the commands for books
 pub record LineWork : Type 0 where
@@ -72,10 +74,20 @@ idle_line playing submissions = record { playing = playing; text = []; submissio
 abbrev pub reconnected : Member → Member
 reconnected member = record member { session = connected member.session; stream = [] }
 
--- a line of a body
+abbrev pub work_of_open : Playing → ℕ → LineWork
+work_of_open playing number = idle_line (with_member playing number (reconnected (member_at playing number))) []
+
+abbrev pub work_of_quote : Playing → ℕ → Command → LineWork
+work_of_quote playing symbol command = idle_line playing (record { symbol = symbol; command = command } ∷ [])
+
+-- ---- a line of a body
+
 abbrev pub work_of_line : Playing → Line → LineWork
 work_of_line playing (Moment moment) = work_of_moment playing moment
-work_of_line playing (Quote symbol command) = idle_line playing (record { symbol = symbol; command = command } ∷ [])
+work_of_line playing (Quote symbol command) = work_of_quote playing symbol command
 work_of_line playing (Piece number bytes) = work_of_piece playing number bytes
-work_of_line playing (Open number) =
-    idle_line (with_member playing number (reconnected (member_at playing number))) []
+work_of_line playing (Open number) = work_of_open playing number
+
+-- the commands of a line, recorded
+abbrev pub recorded_by : LineWork → Recorded
+recorded_by work = recorded work.playing.config work.playing.moment work.submissions work.playing.journals

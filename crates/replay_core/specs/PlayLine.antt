@@ -6,10 +6,10 @@ use Rattle.script_text.specs.declared.fault.LineFault.{LineFault}
 use Rattle.script_text.specs.declared.fault.LineFault.TheVariants.{Bad, Limit}
 use Rattle.script_text.specs.declared.fault.LimitCause.TheVariants.{Events}
 use Rattle.script_text.specs.Body.{line_of}
-use Rattle.replay_core.specs.LineWork.{LineWork, work_of_line}
+use Rattle.replay_core.specs.LineWork.{LineWork, work_of_line, recorded_by}
 use Rattle.replay_core.specs.Playing.{Playing}
 use Rattle.replay_core.specs.Pulling.{after_pulls, lines_of_pulls}
-use Rattle.replay_core.specs.Recording.{Recorded, recorded}
+use Rattle.replay_core.specs.Recording.{Recorded}
 
 -- what a line comes to: a player with its output, or why the line is refused; and the most steps that the events may
 -- take which it recorded, those of a refused line among them
@@ -36,8 +36,7 @@ answer_to n work recorded =
     }
 
 abbrev pub answer_to_work : ℕ → LineWork → Answer
-answer_to_work n work =
-    answer_to n work (recorded work.playing.config work.playing.moment work.submissions work.playing.journals)
+answer_to_work n work = answer_to n work (recorded_by work)
 
 abbrev pub answer_to_read : ℕ → Playing → Result Line LineCause → Answer
 answer_to_read n playing (Err cause) = refused (Bad n cause)

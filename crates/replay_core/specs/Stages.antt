@@ -4,7 +4,7 @@ use Rattle.std.specs.List.{AllZip, range_with_len}
 use Rattle.venue_words.specs.declared.config.Config.{Config}
 use Rattle.venue_words.specs.Floors.{SymbolView}
 use Rattle.session_core.specs.Machine.{IsOver}
-use Rattle.member_gate.specs.Desks.{DeskView}
+use Rattle.member_gate.specs.Desks.{DeskView, fresh_desk}
 use Rattle.member_gate.specs.Reporting.{cursor_at}
 use Rattle.member_gate.specs.Working.{AreUnread}
 use Rattle.replay_core.specs.PlainFloor.{ShowsJournals}
@@ -23,6 +23,10 @@ kept_of config floor desks moment = record { config = config; floor = floor; des
 -- the desks of all members, in their order
 abbrev pub AreDesks : Config → List DeskView → Type 0
 AreDesks config desks = map (λ desk. desk.member) desks ≡ range_with_len 0 (length config.members)
+
+-- those of a config before any connection
+abbrev pub fresh_desks : Config → List DeskView
+fresh_desks config = map (fresh_desk config) (range_with_len 0 (length config.members))
 
 -- a desk is that of a member: what it has not read goes on from the member's stream, unless his session is over
 pub record IsDeskOf (symbols : ℕ) (desk : DeskView) (member : Member) : Type 0 where

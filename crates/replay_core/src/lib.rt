@@ -8,4 +8,6 @@ pub mod player;
 pub mod pulling;
 pub mod reading;
 pub mod status;
+pub mod submitting;
+pub mod taking;
 pub mod ticking;

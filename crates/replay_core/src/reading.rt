@@ -1,6 +1,7 @@
 //! A script that was read up to some place.
-ghost use Rattle.std.specs.Prelude.{◌≡◌, ◌≤◌, ◌<◌, false, true, vec_len};
+ghost use Rattle.std.specs.Prelude.{◌≡◌, ◌≤◌, ◌<◌, false, vec_len};
 ghost use Rattle.script_text.specs.Lines.{has_end};
+ghost use Rattle.replay_core.specs.Reading.{IsReady};
 
 use crate::phase::Phase;
 use crate::plain_floor::PlainFloor;
@@ -18,4 +19,5 @@ pub struct Reader<F: PlainFloor> {
     ghost short: { vec_len held ≤ 16384 },
     ghost within: { bytes ≤ 1073741824 },
     ghost counted: { lines ≤ bytes },
+    ghost ready: { IsReady phase },
 }
