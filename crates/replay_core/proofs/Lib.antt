@@ -7,3 +7,8 @@ pub mod Standing
 pub mod Submitted
 pub mod Fresh
 pub mod ReadLine
+pub mod Ahead
+pub mod Leading
+pub mod LineByLine
+pub mod PieceByPiece
+pub mod Turns

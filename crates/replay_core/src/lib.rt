@@ -3,6 +3,7 @@
 
 pub mod output;
 pub mod phase;
+pub mod pieces;
 pub mod plain_floor;
 pub mod player;
 pub mod pulling;

@@ -3,7 +3,7 @@ ghost use Rattle.std.specs.Prelude.{◌≡◌, ◌≤◌, ◌+◌, [], IfOk, len
 ghost use Rattle.venue_words.specs.Conditions.{IsConfig};
 ghost use Rattle.replay_core.specs.Meets.{Meets};
 ghost use Rattle.replay_core.specs.Play.{Stage, turned, over_fault};
-ghost use Rattle.replay_core.specs.Reading.{IsAtStage, IsReady};
+ghost use Rattle.replay_core.specs.Phases.{IsAtStage, IsReady};
 
 use crate::plain_floor::PlainFloor;
 use crate::player::Player;
@@ -39,13 +39,20 @@ pub fn turn<F: PlainFloor, L: Ledger>(
 {
     match phase {
         Phase::Head(mut header) => {
-            if header.line(alloc, line, text)? {
+            let whole = match header.line(alloc, line, text) {
+                Ok(whole) => whole,
+                Err(fault) => return Err(fault),
+            };
+            if whole {
                 Ok(Phase::Body(Player::new(alloc, header.config)?))
             } else {
                 Ok(Phase::Head(header))
             }
         }
-        Phase::Body(player) => Ok(Phase::Body(player.line(line, text, out, steps)?)),
+        Phase::Body(player) => match player.line(line, text, out, steps) {
+            Ok(player) => Ok(Phase::Body(player)),
+            Err(fault) => Err(fault),
+        },
     }
 }
 

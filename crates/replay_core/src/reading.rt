@@ -1,11 +1,8 @@
 //! A script that was read up to some place.
-ghost use Rattle.std.specs.Prelude.{◌≡◌, ◌≤◌, ◌<◌, false, vec_len};
-ghost use Rattle.script_text.specs.Lines.{has_end};
-ghost use Rattle.replay_core.specs.Reading.{IsReady};
-
 use crate::phase::Phase;
 use crate::plain_floor::PlainFloor;
 use std::alloc::Global;
+use std::marker::Model;
 
 /// A script in the middle: its whole lines were worked, and the bytes behind them are held.
 #[derive(Drop)]
@@ -15,9 +12,14 @@ pub struct Reader<F: PlainFloor> {
     pub lines: u32,
     pub bytes: u64,
     pub held: Vec<u8>,
-    ghost clear: { has_end held.items ≡ false },
-    ghost short: { vec_len held ≤ 16384 },
-    ghost within: { bytes ≤ 1073741824 },
-    ghost counted: { lines ≤ bytes },
-    ghost ready: { IsReady phase },
+}
+
+impl<F: PlainFloor> Model for Reader<F> {
+    ghost use Rattle.replay_core.specs.Between.{Between, between, IsSound};
+
+    ghost Value = { Between F };
+
+    ghost view = { λ r. between r.phase r.lines r.bytes r.held.items };
+
+    ghost invariant = { λ r. IsSound (between r.phase r.lines r.bytes r.held.items) };
 }

@@ -1,0 +1,66 @@
+-- What a text makes from a place on, by its first line.
+use Rattle.std.proofs.Common.{◌≡◌, ℕ, ◌+◌, ◌<◌, Bool, true, false, List, [], ◌∷◌, ◌++◌, length, refl, ap, append-nil, arith, nat_lt, cond, length-append}
+use Rattle.std.proofs.lemmas.Bool.Decides.{nat_tests}
+use Rattle.script_text.specs.Lines.{cut, has_end}
+use Rattle.script_text.specs.LinesLaws.{cut_joined, cut_first, cut_whole, joined}
+use Rattle.script_text.specs.declared.fault.LineFault.{LineFault}
+use Rattle.script_text.specs.declared.fault.LineFault.TheVariants.{Limit}
+use Rattle.script_text.specs.declared.fault.LimitCause.TheVariants.{Line}
+use Rattle.script_text.specs.Header.{longest_line}
+use Rattle.replay_core.specs.Play.{Place, Played, Stage, Head, Body, played, play, step_at, end_at, end_of, after_line, stopped, finished, refused_at}
+
+pub played_step : (p : Place) (held more : List ℕ) → has_end held ≡ false
+    → played p (held ++ 10 ∷ more) ≡ after_line (step_at p held) (λ q. played q more)
+unfolding played play
+played_step p held more e = rw (cut_first held more e) refl
+
+pub played_end : (p : Place) (held : List ℕ) → has_end held ≡ false → played p held ≡ end_at p held
+unfolding played play
+played_end p held e = rw (cut_whole held e) refl
+
+pub held_end : (p : Place) (held : List ℕ) → has_end held ≡ false → played p (held ++ []) ≡ end_at p held
+held_end p held e = rw append-nil (played_end p held e)
+
+long_step : (p : Place) (held line : List ℕ) → longest_line < length held
+    → step_at p (held ++ line) ≡ refused_at p (Limit (p.lines + 1) Line)
+unfolding step_at
+long_step p held line h =
+    let long : nat_lt longest_line (length (held ++ line)) ≡ true = grind (arith, nat_tests, length-append) in
+    rw long refl
+
+long_end : (p : Place) (held rest : List ℕ) → longest_line < length held
+    → end_at p (held ++ rest) ≡ stopped (Limit (p.lines + 1) Line)
+unfolding end_at
+long_end p held rest h =
+    let long : nat_lt longest_line (length (held ++ rest)) ≡ true = grind (arith, nat_tests, length-append) in
+    rw long refl
+
+long_joined : (p : Place) (held : List ℕ) (lines : List (List ℕ)) (rest : List ℕ) → longest_line < length held
+    → play p (joined held lines rest).lines (joined held lines rest).rest ≡ stopped (Limit (p.lines + 1) Line)
+unfolding play joined
+long_joined p held [] rest h = long_end p held rest h
+long_joined p held (line ∷ lines) rest h = rw (long_step p held line h) refl
+
+pub played_long : (p : Place) (held more : List ℕ) → has_end held ≡ false → longest_line < length held
+    → played p (held ++ more) ≡ stopped (Limit (p.lines + 1) Line)
+unfolding played
+played_long p held more e h = rw (cut_joined held more e) (long_joined p held (cut more).lines (cut more).rest h)
+
+end_of_text : (n : ℕ) (stage : Stage) (rest : List ℕ) → (end_of n stage rest).text ≡ []
+end_of_text n (Head header) rest = refl
+end_of_text n (Body playing) [] = refl
+end_of_text n (Body playing) (b ∷ rest) = refl
+
+end_of_steps : (n : ℕ) (stage : Stage) (rest : List ℕ) → (end_of n stage rest).steps ≡ 0
+end_of_steps n (Head header) rest = refl
+end_of_steps n (Body playing) [] = refl
+end_of_steps n (Body playing) (b ∷ rest) = refl
+
+either_text : (b : Bool) (x y : Played) → x.text ≡ [] → y.text ≡ [] → (cond b x y).text ≡ []
+either_text true x y e f = e
+either_text false x y e f = f
+
+-- what stands behind the last line makes no text and no step
+pub end_at_text : (p : Place) (held : List ℕ) → (end_at p held).text ≡ []
+unfolding end_at
+end_at_text p held = either_text (nat_lt longest_line (length held)) _ _ refl (end_of_text (p.lines + 1) p.stage held)

@@ -1,0 +1,65 @@
+-- A line at a stage of a script.
+use Rattle.std.proofs.Common.{◌≡◌, ◌⊎◌, ℕ, ◌≤◌, ◌+◌, Bool, true, false, List, [], Result, Ok, Err, refl, sym, ◌∙◌, ap, subst, inl, inr, arith}
+use Rattle.venue_words.specs.Floors.{SymbolView}
+use Rattle.script_text.specs.declared.header.Header.{Header}
+use Rattle.script_text.specs.declared.fault.LineFault.{LineFault}
+use Rattle.script_text.specs.declared.fault.LineFault.TheVariants.{NoMemory}
+use Rattle.script_text.specs.Header.{header_line}
+use Rattle.replay_core.specs.Meets.{Meets}
+use Rattle.replay_core.specs.Phases.{IsAtStage}
+use Rattle.replay_core.specs.Play.{Stage, Head, Body, turned, after_header, after_body}
+use Rattle.replay_core.specs.PlayLine.{Answer, play_line}
+use Rattle.replay_core.specs.Playing.{Playing, before_body}
+use Rattle.replay_core.specs.Stages.{Kept, StandsFor}
+use Rattle.replay_core.specs.declared.phase.Phase.{Phase}
+use Rattle.replay_core.specs.declared.phase.Phase.TheVariants as phase
+
+pub head_refused : {F : Type 0} (at : F → ℕ → SymbolView) (n : ℕ) (header : Header) (stage : Stage) (text : List ℕ) (fault : LineFault)
+    → IsAtStage at (phase.Head header) stage → (fault ≡ NoMemory) ⊎ (header_line n header text ≡ Err fault)
+    → (fault ≡ NoMemory) ⊎ ((turned n stage text).result ≡ Err fault)
+unfolding turned
+head_refused at n header (Head other) text fault e (inl none) = inl none
+head_refused at n header (Head other) text fault e (inr h) =
+    inr (ap (λ (k : Header). after_header (header_line n k text)) (sym e) ∙ ap after_header h)
+head_refused at n header (Body playing) text fault e h = absurd e
+
+pub head_goes_on : {F : Type 0} (at : F → ℕ → SymbolView) (n : ℕ) (header next : Header) (whole : Bool) (stage : Stage) (text : List ℕ)
+    → IsAtStage at (phase.Head header) stage → header_line n header text ≡ Ok (whole, next) → whole ≡ false
+    → (behind : Stage) × ((turned n stage text).result ≡ Ok (behind, [])) × IsAtStage at (phase.Head next) behind
+unfolding turned
+head_goes_on at n header next whole (Head other) text e h w =
+    (Head next, ap (λ (k : Header). after_header (header_line n k text)) (sym e) ∙ ap after_header (h ∙ ap (λ (b : Bool). Ok (b, next)) w), refl)
+head_goes_on at n header next whole (Body playing) text e h w = absurd e
+
+pub head_ends : {F : Type 0} (at : F → ℕ → SymbolView) (n : ℕ) (header next : Header) (whole : Bool) (stage : Stage) (text : List ℕ) (kept : Kept F)
+    → IsAtStage at (phase.Head header) stage → header_line n header text ≡ Ok (whole, next) → whole ≡ true
+    → StandsFor at kept (before_body next.config)
+    → (behind : Stage) × ((turned n stage text).result ≡ Ok (behind, [])) × IsAtStage at (phase.Body kept) behind
+unfolding turned
+head_ends at n header next whole (Head other) text kept e h w s =
+    (Body (before_body next.config), ap (λ (k : Header). after_header (header_line n k text)) (sym e)
+    ∙ ap after_header (h ∙ ap (λ (b : Bool). Ok (b, next)) w), s)
+head_ends at n header next whole (Body playing) text kept e h w s = absurd e
+
+pub body_refused : {F : Type 0} (at : F → ℕ → SymbolView) (n : ℕ) (kept : Kept F) (stage : Stage) (text : List ℕ) (fault : LineFault)
+    → ((playing : Playing) → StandsFor at kept playing → (fault ≡ NoMemory) ⊎ ((play_line n playing text).result ≡ Err fault))
+    → IsAtStage at (phase.Body kept) stage → (fault ≡ NoMemory) ⊎ ((turned n stage text).result ≡ Err fault)
+unfolding turned
+body_refused at n kept (Head header) text fault h s = absurd s
+body_refused at n kept (Body playing) text fault h s = elim (h playing s) [ inl none ↦ inl none | inr e ↦ inr (ap after_body e) ]
+
+pub body_goes_on : {F : Type 0} (at : F → ℕ → SymbolView) (n : ℕ) (kept next : Kept F) (stage : Stage) (text out : List ℕ)
+    → ((playing : Playing) → StandsFor at kept playing
+    → (behind : Playing) × ((play_line n playing text).result ≡ Ok (behind, out)) × StandsFor at next behind)
+    → IsAtStage at (phase.Body kept) stage
+    → (behind : Stage) × ((turned n stage text).result ≡ Ok (behind, out)) × IsAtStage at (phase.Body next) behind
+unfolding turned
+body_goes_on at n kept next (Head header) text out h s = absurd s
+body_goes_on at n kept next (Body playing) text out h s = let x = h playing s in (Body x.0, ap after_body x.1, x.2)
+
+pub body_steps : {F : Type 0} (at : F → ℕ → SymbolView) (n : ℕ) (kept : Kept F) (stage : Stage) (text : List ℕ) (before after : ℕ)
+    → ((playing : Playing) → StandsFor at kept playing → after ≤ before + (play_line n playing text).steps)
+    → IsAtStage at (phase.Body kept) stage → after ≤ before + (turned n stage text).steps
+unfolding turned
+body_steps at n kept (Head header) text before after h s = absurd s
+body_steps at n kept (Body playing) text before after h s = h playing s
