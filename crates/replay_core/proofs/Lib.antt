@@ -12,3 +12,6 @@ pub mod Leading
 pub mod LineByLine
 pub mod PieceByPiece
 pub mod Turns
+pub mod Steps
+pub mod Going
+pub mod Outcomes

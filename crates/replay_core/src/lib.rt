@@ -8,6 +8,7 @@ pub mod plain_floor;
 pub mod player;
 pub mod pulling;
 pub mod reading;
+pub mod replaying;
 pub mod status;
 pub mod submitting;
 pub mod taking;

@@ -98,6 +98,7 @@ fn hold<F: PlainFloor>(reader: Reader<F>, part: &[u8]) -> Result<Reader<F>, Line
     requires { has_end part.now ≡ false }
     ensures place { IfOk result (λ next. (place : Place) → IsAt F.at reader place → IsAt F.at next place) }
     ensures held { IfOk result (λ next. next.held ≡ reader.held ++ part.now) }
+    ensures bytes { IfOk result (λ next. next.bytes ≡ reader.bytes) }
     ensures err { IfErr result (λ fault. (fault ≡ memory) ⊎ ((fault ≡ Limit (reader.lines + 1) Line)
         × (16384 < length (reader.held ++ part.now)))) }
 {
