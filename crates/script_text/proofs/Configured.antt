@@ -16,7 +16,6 @@ use Rattle.script_text.specs.declared.fault.LineFault.{LineFault}
 use Rattle.script_text.specs.Meets.{Meets}
 use Rattle.script_text.specs.Words.{is_name, limit_of, tick_of, script_moment}
 use Rattle.script_text.specs.Header.{Step, name_cause, unless, member_line, market_line, symbol_line, symbol_fits, symbol_numbers, symbol_words, begins, begin_line, one_word, keyed, keyed_else, keyed_line, first_line, header_line, with_header, longest_line, blank}
-use Rattle.script_text.specs.declared.fault.LimitCause.TheVariants as limit
 
 both_false : (a b : Bool) → (a || b) ≡ false → (a ≡ false) × (b ≡ false)
 both_false true b e = cc
