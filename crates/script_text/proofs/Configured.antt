@@ -1,23 +1,21 @@
 -- Each line of a header keeps its config within the limits of the venue.
-use Rattle.std.proofs.Common.{◌≡◌, ℕ, ◌+◌, ◌-◌, ◌*◌, ◌≤◌, ◌<◌, ◌==◌, ◌&&◌, ◌||◌, not, nat_le, nat_lt, Bool, true, false, cond, List, [], ◌∷◌, ◌++◌, length, length-append, Option, Some, None, Result, Ok, Err, IfOk, OnOk, refl, sym, arith, inl, inr, sum, subst}
+use Rattle.std.proofs.Common.{◌≡◌, ℕ, ◌+◌, ◌-◌, ◌*◌, ◌≤◌, ◌<◌, ◌==◌, ◌||◌, not, nat_le, nat_lt, Bool, true, false, cond, List, [], ◌∷◌, ◌++◌, length, length-append, Option, Some, None, Result, Ok, Err, IfOk, OnOk, refl, arith, inl, inr, sum, subst}
 use Rattle.std.specs.Prelude.{if◌then◌else◌, codes, ℤ, slice_index}
-use Rattle.std.specs.List.{AllByRecursion, IsDistinct, list_any, list_all, fold}
+use Rattle.std.specs.List.{IsDistinct, list_any, list_all, fold}
 use Rattle.std.specs.Option.{option_and_then}
 use Rattle.std.specs.Str.{bytes_eq}
 use Rattle.std.proofs.lemmas.Bool.Decides.{nat_tests}
 use Rattle.venue_words.specs.ListLaws.{all_append}
-use Rattle.venue_words.specs.declared.config.Config.{Config}
 use Rattle.venue_words.specs.Conditions.{AreNames, IsEventLimit, IsTick, IsConfig, most_events}
 use Rattle.quote_intake.specs.Price.{digits_of, number_of, is_digit}
 use Rattle.quote_intake.specs.Words.{words_of}
 use Rattle.script_text.specs.declared.header.Header.{Header}
 use Rattle.script_text.specs.declared.fault.LineCause.{LineCause}
-use Rattle.script_text.specs.declared.fault.LineCause.TheVariants.{BadName, DoubleName, BadNumber, BadTick, BadMoment, BadWord, BadHeader}
+use Rattle.script_text.specs.declared.fault.LineCause.TheVariants.{BadName, DoubleName}
 use Rattle.script_text.specs.declared.fault.LineFault.{LineFault}
 use Rattle.script_text.specs.Meets.{Meets}
 use Rattle.script_text.specs.Words.{is_name, limit_of, tick_of, script_moment}
-use Rattle.script_text.specs.Header.{Step, name_cause, unless, with_member, with_market, with_symbol, member_line, market_line, symbol_line, symbol_fits, symbol_numbers, symbol_words, begins, begin_line, one_word, keyed, keyed_else, keyed_line, first_line, with_version, header_line, with_header, longest_line, blank, goes_on, past, refused}
-use Rattle.script_text.specs.declared.fault.LimitCause.TheVariants as limit
+use Rattle.script_text.specs.Header.{Step, name_cause, unless, member_line, market_line, symbol_line, symbol_fits, symbol_numbers, symbol_words, begins, begin_line, one_word, keyed, keyed_else, keyed_line, first_line, header_line, with_header, longest_line, blank}
 
 both_false : (a b : Bool) → (a || b) ≡ false → (a ≡ false) × (b ≡ false)
 both_false true b e = cc

@@ -1,5 +1,5 @@
 -- The lines of the load script by their numbers.
-use Rattle.std.proofs.Common.{◌≡◌, ℕ, ◌+◌, ◌-◌, ◌<◌, ◌≤◌, List, [], ◌∷◌, ◌++◌, map, length, get_or, ap, ◌∙◌, refl, arith, length-append}
+use Rattle.std.proofs.Common.{◌≡◌, ℕ, ◌+◌, ◌-◌, ◌<◌, ◌≤◌, List, [], ◌∷◌, ◌++◌, map, length, get_or, ◌∙◌, refl, arith, length-append}
 use Rattle.std.specs.List.{range_with_len}
 use Rattle.std.proofs.Math.ListN.{get_or-append}
 use Rattle.std.proofs.lemmas.List.{get_or-append-add}
@@ -93,3 +93,5 @@ load_last orders quotes number e = behind_quotes orders quotes number 0 (omega a
 pub load_end : (orders quotes number : ℕ) → number ≡ orders + quotes + 9
     → load_line orders quotes number ≡ []
 load_end orders quotes number e = behind_quotes orders quotes number 1 (omega arith) (omega arith)
+
+pub ruleset by_number = (load_first, load_order, load_quote, load_last, load_end)

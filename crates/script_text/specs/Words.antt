@@ -1,5 +1,5 @@
 -- The forms of the words of a header.
-use Rattle.std.specs.Prelude.{◌≡◌, ℕ, ◌+◌, ◌-◌, ◌*◌, ◌&&◌, ◌||◌, ◌==◌, Bool, true, false, not, List, [], ◌∷◌, length, Option, Some, None, nat_lt, nat_le, option_and_then, if◌then◌else◌, codes, slice_index, drop, ℤ, pos}
+use Rattle.std.specs.Prelude.{ℕ, ◌+◌, ◌&&◌, ◌||◌, ◌==◌, Bool, List, length, Option, Some, None, nat_lt, nat_le, option_and_then, if◌then◌else◌, codes, slice_index, drop, ℤ}
 use Rattle.std.specs.List.{list_all}
 use Rattle.std.specs.Str.{bytes_eq}
 use Rattle.venue_words.specs.Conditions.{most_events}

@@ -98,9 +98,9 @@ fn last_line(alloc: Global, orders: u64) -> Result<Vec<u8>, NoMemory>
 }
 
 /// A line of the load script, without its LF: a script of one member whose many orders rest at eight offsets below the
-/// bid, of quotes that move all of them, and of one order at the end that trades with ten of them. It has orders + quotes
+/// bid, of quotes that move all of them, and of one order at the end that sells 1,000 shares. It has orders + quotes
 /// + 8 lines, counted from 1, and the empty text stands behind the last one.
-#[tactic(auto, using(crate::proofs::Loads::load_first, crate::proofs::Loads::load_order, crate::proofs::Loads::load_quote, crate::proofs::Loads::load_last, crate::proofs::Loads::load_end))]
+#[tactic(auto, using(crate::proofs::Loads::by_number))]
 pub fn load_line(alloc: Global, orders: u32, quotes: u32, number: u32) -> Result<Vec<u8>, NoMemory>
     requires above { 1 ≤ number }
     requires below { number ≤ orders + quotes + 9 }
