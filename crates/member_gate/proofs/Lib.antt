@@ -1,3 +1,4 @@
+pub mod Looking
 pub mod Over
 pub mod Taking
 pub mod Underway

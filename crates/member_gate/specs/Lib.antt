@@ -1,5 +1,6 @@
 pub mod Answering
 pub mod Desks
+pub mod PlainFloors
 pub mod Reporting
 pub mod Submitting
 pub mod Working
