@@ -1,3 +1,5 @@
+pub mod Framing
+pub mod Joining
 pub mod Looking
 pub mod Over
 pub mod Taking

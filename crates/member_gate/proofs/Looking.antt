@@ -78,11 +78,12 @@ module _ {F : Type 0} (at : F → ℕ → SymbolView) (config : Config) (member 
   looked_more before count now next messages more fronts further front l inside others waited rose m f s =
       let shown = take count config.symbols in
       let few : length shown ≡ count = length-take-le count config.symbols (omega arith) in
+      let place : 0 + length shown ≡ count = omega (arith, few) in
       let name : get_or config.symbols count [] ≡ name_at config.symbols count = sym (unwrap_or-slice_get config.symbols count []) in
       let names : take (count + 1) config.symbols ≡ shown ++ name_at config.symbols count ∷ [] = take_more config.symbols count [] inside ∙ ap (λ (x : List ℕ). shown ++ x ∷ []) name in
       let kept : messages_from config member cursors (reports_at next) 0 shown ≡ messages_from config member cursors (reports_at now) 0 shown =
       messages_same config member cursors (reports_at now) (reports_at next) 0 shown (λ k h. ap (λ (v : SymbolView). v.reports) (others k (λ e. absurd (omega arith)))) in
-      let added = messages_snoc config member cursors (reports_at next) 0 count shown (name_at config.symbols count) few in
+      let added = messages_snoc config member cursors (reports_at next) 0 count shown (name_at config.symbols count) place in
       let here = messages_at config member (name_at config.symbols count) (cursor_at cursors count) (reports_at next count) in record {
         messages_are =
             m ∙ ap (λ (ms : List Message). ms ++ here) (l.messages_are ∙ sym kept) ∙ sym added

@@ -1,6 +1,7 @@
 pub mod Answering
 pub mod Desks
-pub mod PlainFloors
+pub mod Ends
+pub mod Laws
 pub mod Reporting
 pub mod Submitting
 pub mod Working

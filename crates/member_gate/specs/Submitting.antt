@@ -72,5 +72,5 @@ pub record Stopped {F : Type 0} (at : F → ℕ → SymbolView) (step_limit : Fl
   pub frames_are : frames ≡ worked ++ left
   pub between : F × ℕ
   pub took : TookAll at step_limit mark feed moment (work_of_frames config member moment session worked).submissions before between
-  pub gave_up : GaveUp config member moment (work_of_frames config member moment session worked).session left last
+  pub gave_up : GaveUp moment (work_of_frames config member moment session worked).session left last
   pub rest : TookNone at step_limit mark feed moment refusal (work_of_frames config member moment (work_of_frames config member moment session worked).session left).submissions between after

@@ -5,6 +5,7 @@ ghost use Rattle.venue_words.specs.Floors.{setup_of, TurnsRose};
 ghost use Rattle.session_core.specs.Machine.{IsUp, IsOver, sending, on_clock, given_up};
 ghost use Rattle.session_core.specs.Runs.{send_if_up};
 ghost use Rattle.fix_frames.specs.Reading.{reading_of};
+ghost use Rattle.member_gate.specs.Ends.{silence};
 ghost use Rattle.member_gate.specs.Submitting.{TookAll, Stopped, Waited};
 ghost use Rattle.member_gate.specs.Working.{AreUnread};
 ghost use Rattle.member_gate.specs.Reporting.{messages_past, MovedOn};
@@ -21,6 +22,17 @@ use std::marker::Model;
 use std::mem::swap;
 use std::sync::ledger::Ledger;
 use venue_words::{Bytes, Config, Floor, Items, NoMemory, Steps};
+
+/// The turn of a connection that ended at a refusal: nothing is sent, and the end has no cause.
+fn silence(alloc: Global) -> Turn
+    ensures { result ≡ silence }
+{
+    Turn {
+        replies: Items(Vec::new(alloc)),
+        request: None,
+        ended: None,
+    }
+}
 
 /// The desk of a member: his session, the stream of bytes of his connection, and for each symbol how many of its
 /// reports he has been sent or passed over. Session and cursors outlive a connection.
@@ -128,11 +140,7 @@ impl Desk {
         ensures mark { F.mark floor.new ≡ F.mark floor.old }
     {
         if self.refused {
-            return Ok(Turn {
-                replies: Items(Vec::new(self.alloc)),
-                request: None,
-                ended: None,
-            });
+            return Ok(silence(self.alloc));
         }
         let origin = Origin {
             config,
@@ -217,12 +225,9 @@ impl Desk {
         ensures up { OnErr result (IsUp self.old.session) }
         ensures err { OnErr result (self.new ≡ record self.old { session = given_up self.old.session }) }
     {
+        let alloc = self.alloc;
         if self.refused {
-            return Ok(Turn {
-                replies: Items(Vec::new(self.alloc)),
-                request: None,
-                ended: None,
-            });
+            return Ok(silence(alloc));
         }
         match self.session.tick(moment) {
             Ok(turn) => Ok(turn_of(&mut self.session, moment, turn.replies.into_vec())),

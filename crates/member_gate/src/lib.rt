@@ -5,6 +5,7 @@
 mod answering;
 pub mod business;
 mod desk;
+pub mod laws;
 mod names;
 mod origin;
 mod refusal;
