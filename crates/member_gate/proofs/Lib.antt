@@ -4,3 +4,4 @@ pub mod Looking
 pub mod Over
 pub mod Taking
 pub mod Underway
+pub mod PlainFloor

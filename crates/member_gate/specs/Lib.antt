@@ -2,6 +2,7 @@ pub mod Answering
 pub mod Desks
 pub mod Ends
 pub mod Laws
+pub mod PlainFloors
 pub mod Reporting
 pub mod Submitting
 pub mod Working

@@ -17,3 +17,6 @@ pub use desk::Desk;
 pub use refusal::DeskRefusal;
 pub use session_core::{EndCause, Turn};
 
+
+#[cfg(test)]
+mod tests;
