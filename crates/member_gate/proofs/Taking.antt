@@ -1,14 +1,14 @@
 -- How what a floor took is joined, and what a refusal leaves of it.
-use Rattle.std.proofs.Common.{◌≡◌, ℕ, ◌≤◌, ℤ, List, [], ◌∷◌, ◌++◌, Option, Some, None, refl, sym, subst, arith}
-use Rattle.std.specs.Prelude.{IfSome}
+use Rattle.std.proofs.Common.{◌≡◌, ◌≢◌, ℕ, ◌≤◌, ℤ, List, [], ◌∷◌, ◌++◌, Option, Some, None, refl, sym, subst, arith}
+use Rattle.std.specs.Prelude.{IfSome, slice_index}
 use Rattle.std.proofs.lemmas.List.{append-nil}
 use Rattle.venue_words.specs.declared.command.Event.{Event}
-use Rattle.venue_words.specs.Floors.{FloorMark, SymbolView, TurnsKept}
-use Rattle.venue_words.specs.Journals.{StartsWith}
+use Rattle.venue_words.specs.Floors.{FloorMark, SymbolView, Records, TurnsRose, TurnsKept, CostsAtMost}
+use Rattle.venue_words.specs.Journals.{event, StartsWith}
 use Rattle.member_gate.specs.declared.refusal.DeskRefusal.{DeskRefusal}
 use Rattle.member_gate.specs.declared.refusal.DeskRefusal.TheVariants.{Full, NoMemory}
 use Rattle.member_gate.specs.Answering.{Submission}
-use Rattle.member_gate.specs.Submitting.{TookOne, TookAll, IsNextAt, Waited, TookNoSteps, IsFullNext, TookNone}
+use Rattle.member_gate.specs.Submitting.{TookOne, TookAll, Waited, TookNoSteps, IsFullNext, TookNone}
 
 starts_self : {A : Type 0} (xs : List A) → StartsWith xs xs
 starts_self xs = ([], sym (append-nil xs))
@@ -33,6 +33,24 @@ module _ {F : Type 0} (at : F → ℕ → SymbolView) (step_limit : FloorMark �
       → TookAll at step_limit mark feed moment (first ++ second) before after
   took_append [] second before between after h k = subst (λ (x : F × ℕ). TookAll at step_limit mark feed moment second x after) h k
   took_append (one ∷ others) second before between after h k = (h.0, h.1, took_append others second h.0 between after h.2 k)
+
+  -- one command was taken; its moment may be read in another spelling
+  pub took_just : (one : Submission) (number : ℕ) (read : ℤ) (before after : F × ℕ) → read ≡ moment → Records (at before.0 one.symbol) (at after.0 one.symbol) number feed read one.command
+      → number ≤ slice_index mark.setup.limits one.symbol → StartsWith (at after.0 one.symbol).reports (at before.0 one.symbol).reports → TurnsRose (at before.0 one.symbol).turns (at after.0 one.symbol).turns
+      → ((other : ℕ) → other ≢ one.symbol → at after.0 other ≡ at before.0 other)
+      → CostsAtMost (step_limit mark one.symbol) (at after.0 one.symbol).journal (event number feed read one.command) before.1 after.1
+      → TookAll at step_limit mark feed moment (one ∷ []) before after
+  took_just one number read before after e records room reports turns others steps =
+      let here : TookOne at step_limit mark feed read one before after = record {
+        number = number;
+        records = records;
+        room = room;
+        reports = reports;
+        turns = turns;
+        others = others;
+        steps = steps;
+      } in
+      subst (λ (m : ℤ). TookAll at step_limit mark feed m (one ∷ []) before after) e (after, here, refl)
 
   no_steps : (left : List Submission) (before after : F × ℕ) → after.1 ≡ before.1 → TookNoSteps at step_limit mark feed moment left before after
   no_steps [] before after e = e

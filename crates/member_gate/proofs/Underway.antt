@@ -1,8 +1,8 @@
 -- How the work on a stream goes on, frame by frame, and how it ends.
-use Rattle.std.proofs.Common.{◌≡◌, ◌⊎◌, inl, inr, ℕ, ℤ, Bool, true, false, cond, List, [], ◌∷◌, ◌++◌, Option, refl, sym, ◌∙◌, ap, subst, append_assoc}
+use Rattle.std.proofs.Common.{◌≡◌, ◌⊎◌, inl, ℕ, ℤ, Bool, true, false, List, [], ◌∷◌, ◌++◌, Option, refl, sym, ◌∙◌, ap, subst, append_assoc}
 use Rattle.std.proofs.lemmas.List.{append-nil}
 use Rattle.fix_frames.specs.declared.reading.Reading.{Reading}
-use Rattle.fix_frames.specs.Reading.{none_yet, only_too_long, with_frames, reading_of}
+use Rattle.fix_frames.specs.Reading.{with_frames, reading_of}
 use Rattle.fix_frames.specs.ReadingLaws.{reading-given, reading-waited, reading-none, reading-exceeded, reading-exceeded_on}
 use Rattle.fix_frames.specs.Streams.{Stream, HasGiven, HasWaited, HasExceeded}
 use Rattle.venue_words.specs.declared.command.Event.{Event}
@@ -11,34 +11,15 @@ use Rattle.venue_words.specs.Floors.{FloorMark, SymbolView}
 use Rattle.session_core.specs.Machine.{Machine, given_up}
 use Rattle.member_gate.specs.declared.refusal.DeskRefusal.{DeskRefusal}
 use Rattle.member_gate.specs.declared.refusal.DeskRefusal.TheVariants.{NoMemory}
-use Rattle.member_gate.specs.Answering.{Submission, Work, idle}
+use Rattle.member_gate.specs.Answering.{Submission, Work}
 use Rattle.member_gate.specs.Submitting.{TookAll, TookNone, Stopped}
 use Rattle.member_gate.specs.Working.{then_work, work_of_frame, work_of_frames, work_at_limit, work_of_reading, AreUnread, GaveUp}
+use Rattle.member_gate.proofs.Joining.{frames_snoc}
 use Rattle.member_gate.proofs.Taking.{took_append, none_of_more, none_of_any}
 
--- ---- work in a row
-
-abbrev joined_work : Machine → List (List ℕ) × List Submission → Work
-joined_work session parts = record { session = session; replies = parts.0; submissions = parts.1 }
-
-then_nil : (w : Work) → then_work w (idle w.session) ≡ w
-then_nil w = λ k. joined_work w.session (append-nil w.replies k, append-nil w.submissions k)
-
-then_assoc : (a b c : Work) → then_work a (then_work b c) ≡ then_work (then_work a b) c
-then_assoc a b c = λ k. joined_work c.session (sym (append_assoc a.replies b.replies c.replies) k, sym (append_assoc a.submissions b.submissions c.submissions) k)
-
-frames_snoc : (config : Config) (member : ℕ) (moment : ℤ) (session : Machine) (frames : List (List ℕ)) (frame : List ℕ) → work_of_frames config member moment session (frames ++ frame ∷ [])
-    ≡ then_work (work_of_frames config member moment session frames) (work_of_frame config member moment (work_of_frames config member moment session frames).session frame)
-frames_snoc config member moment session [] frame = then_nil (work_of_frame config member moment session frame)
-frames_snoc config member moment session (first ∷ frames) frame =
-    let one = work_of_frame config member moment session first in
-    let more = work_of_frames config member moment one.session frames in
-    ap (then_work one) (frames_snoc config member moment one.session frames frame)
-    ∙ then_assoc one more (work_of_frame config member moment more.session frame)
-
-pub gave_up_first : (config : Config) (member : ℕ) (moment : ℤ) (session : Machine) (frames : List (List ℕ)) → GaveUp config member moment session frames (given_up session)
-gave_up_first config member moment session [] = inl refl
-gave_up_first config member moment session (frame ∷ frames) = inl refl
+pub gave_up_first : (moment : ℤ) (session : Machine) (frames : List (List ℕ)) → GaveUp moment session frames (given_up session)
+gave_up_first moment session [] = inl refl
+gave_up_first moment session (frame ∷ frames) = inl refl
 
 -- ---- the frames of a reading
 
@@ -140,7 +121,7 @@ module _ {F : Type 0} (at : F → ℕ → SymbolView) (step_limit : FloorMark �
 
   -- the work stops over a frame
   pub stopped_at_frame : (first : Machine) (bytes : List ℕ) (sent : List (List ℕ)) (before : F × ℕ) (session last : Machine) (old new : Stream) (frame : List ℕ) (replies : List (List ℕ)) (refusal : DeskRefusal) (now then : F × ℕ)
-      → Underway first bytes sent before session old.kept replies now → HasGiven old new frame → GaveUp config member moment session (frame ∷ []) last
+      → Underway first bytes sent before session old.kept replies now → HasGiven old new frame → GaveUp moment session (frame ∷ []) last
       → TookNone at step_limit mark feed moment refusal (work_of_frame config member moment session frame).submissions now then
       → Stopped at step_limit mark config member feed moment first (reading_of bytes).frames refusal last before then
   stopped_at_frame first bytes sent before session last old new frame replies refusal now then u given g n =
@@ -155,7 +136,7 @@ module _ {F : Type 0} (at : F → ℕ → SymbolView) (step_limit : FloorMark �
         frames_are = ap (λ (r : Reading). r.frames) reads;
         between = now;
         took = u.took;
-        gave_up = subst (λ (m : Machine). GaveUp config member moment m left last) u.session_is g;
+        gave_up = subst (λ (m : Machine). GaveUp moment m left last) u.session_is g;
         rest =
             none_of_more at step_limit mark feed moment refusal one.submissions rest.submissions now then
             (subst (λ (m : Machine). TookNone at step_limit mark feed moment refusal (work_of_frame config member moment m frame).submissions now then) u.session_is n);
@@ -174,7 +155,7 @@ module _ {F : Type 0} (at : F → ℕ → SymbolView) (step_limit : FloorMark �
         frames_are = ap (λ (r : Reading). r.frames) e ∙ sym (append-nil u.worked);
         between = now;
         took = u.took;
-        gave_up = subst (λ (m : Machine). GaveUp config member moment m [] last) u.session_is g;
+        gave_up = subst (λ (m : Machine). GaveUp moment m [] last) u.session_is g;
         rest = subst (λ (r : DeskRefusal). TookNone at step_limit mark feed moment r [] now now) (sym none) (none_of_any at step_limit mark feed moment [] now);
       }
 
@@ -186,6 +167,6 @@ module _ {F : Type 0} (at : F → ℕ → SymbolView) (step_limit : FloorMark �
     frames_are = refl;
     between = now;
     took = refl;
-    gave_up = gave_up_first config member moment first frames;
+    gave_up = gave_up_first moment first frames;
     rest = none_of_any at step_limit mark feed moment (work_of_frames config member moment first frames).submissions now;
   }

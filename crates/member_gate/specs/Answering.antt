@@ -1,12 +1,13 @@
 -- What a message that a session hands out gets: an answer that is framed at once, or a command for a symbol's book.
-use Rattle.std.specs.Prelude.{ℕ, ℤ, List, [], ◌∷◌, ◌++◌, Option, Some, None, slice_get, unwrap_or, codes, decimal, Result, Ok, Err}
+use Rattle.std.specs.Prelude.{ℕ, ℤ, List, [], ◌∷◌, ◌++◌, slice_get, unwrap_or, codes, decimal, Result, Ok, Err}
+use Rattle.fix_write.specs.declared.tags.TheConstants.{MSG_TYPE}
 use Rattle.fix_write.specs.Fields.{field}
 use Rattle.venue_words.specs.declared.command.Command.{Command}
 use Rattle.venue_words.specs.declared.config.Config.{Config}
 use Rattle.venue_words.specs.declared.report.Report.{Report}
 use Rattle.session_core.specs.declared.message.Message.{Message}
 use Rattle.session_core.specs.declared.message.Request.{Request}
-use Rattle.session_core.specs.declared.tags.TheConstants.{MSG_TYPE, REF_SEQ_NUM, REF_MSG_TYPE}
+use Rattle.session_core.specs.declared.tags.TheConstants.{REF_SEQ_NUM, REF_MSG_TYPE}
 use Rattle.session_core.specs.Bodies.{message}
 use Rattle.session_core.specs.Lookup.{text_in}
 use Rattle.session_core.specs.Machine.{Machine, Outcome, on_send_one, on_reject}

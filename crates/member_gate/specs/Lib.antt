@@ -1,5 +1,8 @@
 pub mod Answering
 pub mod Desks
+pub mod Ends
+pub mod Laws
+pub mod PlainFloors
 pub mod Reporting
 pub mod Submitting
 pub mod Working

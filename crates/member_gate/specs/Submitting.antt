@@ -1,6 +1,5 @@
 -- What commands that are submitted to a floor do to it. A floor stands here with the count of steps so far.
 use Rattle.std.specs.Prelude.{◌≡◌, ◌≢◌, ℕ, ◌+◌, ◌≤◌, ℤ, List, [], ◌∷◌, ◌++◌, length, slice_index, Option}
-use Rattle.fix_frames.specs.declared.reading.Reading.{Reading}
 use Rattle.venue_words.specs.declared.command.Event.{Event}
 use Rattle.venue_words.specs.declared.config.Config.{Config}
 use Rattle.venue_words.specs.Floors.{FloorMark, SymbolView, Records, AddsNone, TurnsRose, TurnsKept, CostsAtMost, CostsNothing}
@@ -72,5 +71,5 @@ pub record Stopped {F : Type 0} (at : F → ℕ → SymbolView) (step_limit : Fl
   pub frames_are : frames ≡ worked ++ left
   pub between : F × ℕ
   pub took : TookAll at step_limit mark feed moment (work_of_frames config member moment session worked).submissions before between
-  pub gave_up : GaveUp config member moment (work_of_frames config member moment session worked).session left last
+  pub gave_up : GaveUp moment (work_of_frames config member moment session worked).session left last
   pub rest : TookNone at step_limit mark feed moment refusal (work_of_frames config member moment (work_of_frames config member moment session worked).session left).submissions between after

@@ -4,8 +4,8 @@ use Rattle.fix_frames.specs.declared.reading.Reading.{Reading}
 use Rattle.fix_frames.specs.Reading.{with_frames, reading_of}
 use Rattle.venue_words.specs.declared.config.Config.{Config}
 use Rattle.session_core.specs.declared.message.Request.{Request}
-use Rattle.session_core.specs.Machine.{Machine, Outcome, on_frame, on_overlong, given_up}
-use Rattle.member_gate.specs.Answering.{Submission, Work, idle, turned, answer}
+use Rattle.session_core.specs.Machine.{Machine, on_frame, on_overlong, given_up}
+use Rattle.member_gate.specs.Answering.{Work, idle, turned, answer}
 
 -- one work and then another, which began with the session behind the first
 abbrev pub then_work : Work → Work → Work
@@ -49,12 +49,9 @@ abbrev pub AreUnread : List ℕ → List ℕ → Type 0
 AreUnread bytes unread =
     (more : List ℕ) → reading_of (bytes ++ more) ≡ with_frames (reading_of bytes).frames (reading_of (unread ++ more))
 
--- a session gave up: before it took the next frame, behind that, or once what it handed out was answered; or, behind all
--- frames, before or behind the turn that ends the connection
-abbrev pub GaveUp : Config → ℕ → ℤ → Machine → List (List ℕ) → Machine → Type 0
-GaveUp config member moment session [] last =
-    (last ≡ given_up session) ⊎ (last ≡ given_up (work_at_limit moment session).session)
-GaveUp config member moment session (frame ∷ frames) last =
-    (last ≡ given_up session)
-    ⊎ ((last ≡ given_up (on_frame session frame moment).machine)
-    ⊎ (last ≡ given_up (work_of_frame config member moment session frame).session))
+-- a session gave up: before it took the next frame, or behind that; or, behind all frames, before or behind the turn that
+-- ends the connection
+abbrev pub GaveUp : ℤ → Machine → List (List ℕ) → Machine → Type 0
+GaveUp moment session [] last = (last ≡ given_up session) ⊎ (last ≡ given_up (work_at_limit moment session).session)
+GaveUp moment session (frame ∷ frames) last =
+    (last ≡ given_up session) ⊎ (last ≡ given_up (on_frame session frame moment).machine)

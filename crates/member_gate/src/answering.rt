@@ -5,7 +5,7 @@ ghost use Rattle.venue_words.specs.Conditions.{IsConfig};
 ghost use Rattle.venue_words.specs.Floors.{setup_of};
 ghost use Rattle.session_core.specs.Lookup.{text_in};
 ghost use Rattle.session_core.specs.Machine.{IsUp, on_send_one};
-ghost use Rattle.member_gate.specs.Answering.{answer, answer_stray, business_body};
+ghost use Rattle.member_gate.specs.Answering.{answer, answer_stray, business_body, name_at};
 ghost use Rattle.member_gate.specs.Submitting.{TookAll, TookNone};
 
 use crate::business::{BUSINESS_REJECT, business_body};
@@ -51,10 +51,12 @@ fn answer_stray(
     report: &Report,
 ) -> Result<Bytes, NoMemory>
     requires { IsUp session.old }
-    ensures session { OnOk result (session.new ≡ (answer_stray
-        (name_at origin.entry.config.now.members origin.entry.member) origin.entry.moment session.old request.now report.now).session) }
-    ensures reply { IfOk result (λ frame. frame ∷ [] ≡ (answer_stray
-        (name_at origin.entry.config.now.members origin.entry.member) origin.entry.moment session.old request.now report.now).replies) }
+    ensures session { OnOk result (session.new
+        ≡ (answer_stray (name_at origin.entry.config.now.members origin.entry.member) origin.entry.moment
+        session.old request.now report.now).session) }
+    ensures reply { IfOk result (λ frame. frame ∷ []
+        ≡ (answer_stray (name_at origin.entry.config.now.members origin.entry.member) origin.entry.moment
+        session.old request.now report.now).replies) }
     ensures err { OnErr result (session.new ≡ session.old) }
 {
     let symbol = text_in(SYMBOL, request.fields.as_slice());
@@ -75,9 +77,9 @@ pub fn answer<F: Floor, L: Ledger>(
     steps: &mut Steps<L>,
 ) -> Result<Option<Bytes>, DeskRefusal>
     requires up { IsUp session.old }
-    requires config { IsConfig origin.entry.config.now }
-    requires setup { (F.mark floor.old).setup ≡ setup_of origin.entry.config.now }
-    requires member { origin.entry.member < length origin.entry.config.now.members }
+    requires config { IsConfig origin.config.now }
+    requires setup { (F.mark floor.old).setup ≡ setup_of origin.config.now }
+    requires member { origin.member < length origin.config.now.members }
     ensures session { OnOk result (session.new
         ≡ (answer origin.entry.config.now origin.entry.member origin.entry.moment session.old request.now).session) }
     ensures reply { IfOk result (λ reply. option_to_list reply
@@ -87,7 +89,8 @@ pub fn answer<F: Floor, L: Ledger>(
     ensures took { OnOk result (TookAll F.at F.step_limit (F.mark floor.old) origin.entry.feed origin.entry.moment
         (answer origin.entry.config.now origin.entry.member origin.entry.moment session.old request.now).submissions
         (floor.old, steps.old) (floor.new, steps.new)) }
-    ensures none { IfErr result (λ refusal. TookNone F.at F.step_limit (F.mark floor.old) origin.entry.feed origin.entry.moment refusal
+    ensures none { IfErr result (λ refusal. TookNone F.at F.step_limit (F.mark floor.old)
+        origin.entry.feed origin.entry.moment refusal
         (answer origin.entry.config.now origin.entry.member origin.entry.moment session.old request.now).submissions
         (floor.old, steps.old) (floor.new, steps.new)) }
 {

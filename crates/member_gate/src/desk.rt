@@ -5,6 +5,7 @@ ghost use Rattle.venue_words.specs.Floors.{setup_of, TurnsRose};
 ghost use Rattle.session_core.specs.Machine.{IsUp, IsOver, sending, on_clock, given_up};
 ghost use Rattle.session_core.specs.Runs.{send_if_up};
 ghost use Rattle.fix_frames.specs.Reading.{reading_of};
+ghost use Rattle.member_gate.specs.Ends.{silence};
 ghost use Rattle.member_gate.specs.Submitting.{TookAll, Stopped, Waited};
 ghost use Rattle.member_gate.specs.Working.{AreUnread};
 ghost use Rattle.member_gate.specs.Reporting.{messages_past, MovedOn};
@@ -21,6 +22,17 @@ use std::marker::Model;
 use std::mem::swap;
 use std::sync::ledger::Ledger;
 use venue_words::{Bytes, Config, Floor, Items, NoMemory, Steps};
+
+/// The turn of a connection that ended at a refusal: nothing is sent, and the end has no cause.
+fn silence(alloc: Global) -> Turn
+    ensures { result ≡ silence }
+{
+    Turn {
+        replies: Items(Vec::new(alloc)),
+        request: None,
+        ended: None,
+    }
+}
 
 /// The desk of a member: his session, the stream of bytes of his connection, and for each symbol how many of its
 /// reports he has been sent or passed over. Session and cursors outlive a connection.
@@ -115,7 +127,8 @@ impl Desk {
 
         // The floor took exactly the commands of the piece's frames.
         ensures took { OnOk result (TookAll F.at F.step_limit (F.mark floor.old) feed moment
-            (work_of_piece config.now moment self.old piece.now).submissions (floor.old, steps.old) (floor.new, steps.new)) }
+            (work_of_piece config.now moment self.old piece.now).submissions
+            (floor.old, steps.old) (floor.new, steps.new)) }
 
         // After a refusal the connection has ended, and the floor took the commands of the frames before.
         ensures stopped { IfErr result (λ refusal. Stopped F.at F.step_limit (F.mark floor.old) config.now self.old.member
@@ -128,11 +141,7 @@ impl Desk {
         ensures mark { F.mark floor.new ≡ F.mark floor.old }
     {
         if self.refused {
-            return Ok(Turn {
-                replies: Items(Vec::new(self.alloc)),
-                request: None,
-                ended: None,
-            });
+            return Ok(silence(self.alloc));
         }
         let origin = Origin {
             config,
@@ -142,7 +151,15 @@ impl Desk {
         };
         let alloc = self.alloc;
         let framer = &mut self.framer;
-        match work_piece(alloc, framer, &mut self.session, floor, origin, piece, steps) {
+        match work_piece(
+            alloc,
+            framer,
+            &mut self.session,
+            floor,
+            origin,
+            piece,
+            steps,
+        ) {
             Ok(turn) => Ok(turn),
             Err(refusal) => {
                 self.refused = true;
@@ -211,18 +228,16 @@ impl Desk {
     /// The clock says this moment, in milliseconds since 1970-01-01 00:00 UTC: the session sends at most one message, or
     /// ends the connection where its member is silent. Where memory is wanted the connection ends without a cause.
     pub fn tick(&mut self, moment: i64) -> Result<Turn, NoMemory>
-        ensures session { OnOk result (self.new ≡ record self.old { session = (on_clock self.old.session moment).machine }) }
+        ensures session { OnOk result (self.new
+            ≡ record self.old { session = (on_clock self.old.session moment).machine }) }
         ensures turn { IfOk result (λ turn. turn
             ≡ sending self.new.session (on_clock self.old.session moment).turn.replies) }
         ensures up { OnErr result (IsUp self.old.session) }
         ensures err { OnErr result (self.new ≡ record self.old { session = given_up self.old.session }) }
     {
+        let alloc = self.alloc;
         if self.refused {
-            return Ok(Turn {
-                replies: Items(Vec::new(self.alloc)),
-                request: None,
-                ended: None,
-            });
+            return Ok(silence(alloc));
         }
         match self.session.tick(moment) {
             Ok(turn) => Ok(turn_of(&mut self.session, moment, turn.replies.into_vec())),

@@ -5,6 +5,7 @@
 mod answering;
 pub mod business;
 mod desk;
+pub mod laws;
 mod names;
 mod origin;
 mod refusal;
@@ -16,3 +17,5 @@ pub use desk::Desk;
 pub use refusal::DeskRefusal;
 pub use session_core::{EndCause, Turn};
 
+#[cfg(test)]
+mod tests;

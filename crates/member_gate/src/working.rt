@@ -30,9 +30,9 @@ fn work_frame<F: Floor, L: Ledger>(
     steps: &mut Steps<L>,
 ) -> Result<(), DeskRefusal>
     requires frame { length frame.now ≤ LONGEST_FRAME }
-    requires config { IsConfig origin.entry.config.now }
-    requires setup { (F.mark floor.old).setup ≡ setup_of origin.entry.config.now }
-    requires member { origin.entry.member < length origin.entry.config.now.members }
+    requires config { IsConfig origin.config.now }
+    requires setup { (F.mark floor.old).setup ≡ setup_of origin.config.now }
+    requires member { origin.member < length origin.config.now.members }
     ensures session { OnOk result (session.new
         ≡ (work_of_frame origin.entry.config.now origin.entry.member origin.entry.moment session.old frame.now).session) }
     ensures replies { OnOk result (replies.new.items ≡ replies.old.items
@@ -41,9 +41,9 @@ fn work_frame<F: Floor, L: Ledger>(
     ensures took { OnOk result (TookAll F.at F.step_limit (F.mark floor.old) origin.entry.feed origin.entry.moment
         (work_of_frame origin.entry.config.now origin.entry.member origin.entry.moment session.old frame.now).submissions
         (floor.old, steps.old) (floor.new, steps.new)) }
-    ensures gave_up { OnErr result (GaveUp origin.entry.config.now origin.entry.member origin.entry.moment
-        session.old (frame.now ∷ []) (given_up session.new)) }
-    ensures none { IfErr result (λ refusal. TookNone F.at F.step_limit (F.mark floor.old) origin.entry.feed origin.entry.moment refusal
+    ensures gave_up { OnErr result (GaveUp origin.entry.moment session.old (frame.now ∷ []) (given_up session.new)) }
+    ensures none { IfErr result (λ refusal. TookNone F.at F.step_limit (F.mark floor.old)
+        origin.entry.feed origin.entry.moment refusal
         (work_of_frame origin.entry.config.now origin.entry.member origin.entry.moment session.old frame.now).submissions
         (floor.old, steps.old) (floor.new, steps.new)) }
 {
@@ -53,9 +53,11 @@ fn work_frame<F: Floor, L: Ledger>(
     let Some(request) = turn.request else {
         return Ok(());
     };
+    // Its room is taken first, so that no answer is lost that has its number.
+    replies.reserve(1)?;
     match answer(alloc, session, floor, origin, &request, steps)? {
         Some(reply) => {
-            replies.push(reply)?;
+            replies.push_reserved(reply);
             Ok(())
         }
         None => Ok(()),
@@ -65,16 +67,17 @@ fn work_frame<F: Floor, L: Ledger>(
 /// The connection ends, since the next frame is too long. What is sent then is added.
 fn end_too_long(
     session: &mut Session,
-    moment: i64,
+    origin: Origin<'_>,
     replies: &mut Vec<Bytes>,
 ) -> Result<(), DeskRefusal>
-    ensures session { OnOk result (session.new ≡ (work_at_limit moment session.old).session) }
-    ensures replies { OnOk result (replies.new.items ≡ replies.old.items ++ (work_at_limit moment session.old).replies) }
+    ensures session { OnOk result (session.new ≡ (work_at_limit origin.entry.moment session.old).session) }
+    ensures replies { OnOk result (replies.new.items
+        ≡ replies.old.items ++ (work_at_limit origin.entry.moment session.old).replies) }
     ensures no_memory { IfErr result (λ refusal. refusal ≡ DeskRefusal.NoMemory) }
     ensures gave_up { OnErr result ((given_up session.new ≡ given_up session.old)
-        ⊎ (given_up session.new ≡ given_up (work_at_limit moment session.old).session)) }
+        ⊎ (given_up session.new ≡ given_up (work_at_limit origin.entry.moment session.old).session)) }
 {
-    let turn = session.too_long(moment)?;
+    let turn = session.too_long(origin.moment)?;
     let mut own = turn.replies.into_vec();
     replies.append(&mut own)?;
     Ok(())
@@ -90,9 +93,9 @@ fn work_frames<F: Floor, L: Ledger>(
     replies: &mut Vec<Bytes>,
     steps: &mut Steps<L>,
 ) -> Result<(), DeskRefusal>
-    requires config { IsConfig origin.entry.config.now }
-    requires setup { (F.mark floor.old).setup ≡ setup_of origin.entry.config.now }
-    requires member { origin.entry.member < length origin.entry.config.now.members }
+    requires config { IsConfig origin.config.now }
+    requires setup { (F.mark floor.old).setup ≡ setup_of origin.config.now }
+    requires member { origin.member < length origin.config.now.members }
     ensures session { OnOk result (session.new ≡ (work_of_reading origin.entry.config.now origin.entry.member
         origin.entry.moment session.old (reading_of framer.old.kept)).session) }
     ensures replies { OnOk result (replies.new.items ≡ replies.old.items ++ (work_of_reading origin.entry.config.now
@@ -112,7 +115,10 @@ fn work_frames<F: Floor, L: Ledger>(
                 work_frame(alloc, session, floor, origin, frame, replies, steps)?;
             }
             Next::Wait => return Ok(()),
-            Next::TooLong => return end_too_long(session, origin.moment, replies),
+            Next::TooLong => {
+                end_too_long(session, origin, replies)?;
+                return Ok(());
+            }
         }
     }
 }
@@ -154,9 +160,9 @@ pub fn work_piece<F: Floor, L: Ledger>(
     piece: &[u8],
     steps: &mut Steps<L>,
 ) -> Result<Turn, DeskRefusal>
-    requires config { IsConfig origin.entry.config.now }
-    requires setup { (F.mark floor.old).setup ≡ setup_of origin.entry.config.now }
-    requires member { origin.entry.member < length origin.entry.config.now.members }
+    requires config { IsConfig origin.config.now }
+    requires setup { (F.mark floor.old).setup ≡ setup_of origin.config.now }
+    requires member { origin.member < length origin.config.now.members }
     ensures session { OnOk result (session.new ≡ (work_of_reading origin.entry.config.now origin.entry.member
         origin.entry.moment session.old (reading_of (framer.old.kept ++ piece.now))).session) }
     ensures turn { IfOk result (λ turn. turn ≡ sending session.new (work_of_reading origin.entry.config.now
@@ -172,7 +178,7 @@ pub fn work_piece<F: Floor, L: Ledger>(
         (floor.old, steps.old) (floor.new, steps.new)) }
 {
     let quiet = turn_of(session, origin.moment, Vec::new(alloc));
-    if quiet.ended.is_some() {
+    if let Some(_) = quiet.ended {
         return Ok(quiet);
     }
     framer.feed(piece)?;
