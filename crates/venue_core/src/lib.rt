@@ -11,3 +11,6 @@ pub use plain::PlainVenue;
 pub use seated::Seated;
 pub use seats::Seats;
 pub use venue::Venue;
+
+#[cfg(test)]
+mod tests;

@@ -4,7 +4,7 @@ ghost use Rattle.std.specs.List.{All, AllZip};
 ghost use Rattle.venue_words.specs.Floors.{setup_of};
 ghost use Rattle.turn_gate.specs.Rule.{whole};
 ghost use Rattle.venue_core.specs.Closing.{IsBookOf};
-ghost use Rattle.venue_core.specs.Joining.{IsFirstSeat, HasSeenNoLess, HasOwnNumbers, after_split, split_off, all_joined};
+ghost use Rattle.venue_core.specs.Joining.{IsFirstSeat, HaveParts, HasSeenNoLess, HasOwnNumbers, after_split, split_off, all_joined};
 ghost use Rattle.venue_core.specs.Venues.{AreSeatsOf, TakesConfigured, setup_in};
 
 use crate::calls;
@@ -70,6 +70,8 @@ impl<V: Held + Drop> Venue<V> {
     pub fn split(&self, alloc: Global, seats: &mut Seats) -> Result<Seats, NoMemory>
         requires seats { AreSeatsOf self.now seats.old }
         requires parts { All (λ seat. 1 < seat.part) seats.old }
+        ensures seats { AreSeatsOf self.now seats.new }
+        ensures new_seats { IfOk result (λ new. AreSeatsOf self.now new) }
         ensures old { IfOk result (λ new. seats.new ≡ map after_split seats.old) }
         ensures new { IfOk result (λ new. new ≡ map split_off seats.old) }
         ensures err { OnErr result (seats.new ≡ seats.old) }
@@ -82,7 +84,8 @@ impl<V: Held + Drop> Venue<V> {
     pub fn join(&self, seats: &mut Seats, other: Seats)
         requires seats { AreSeatsOf self.now seats.old }
         requires other_seats { AreSeatsOf self.now other }
-        ensures seats { seats.new ≡ all_joined seats.old other }
+        ensures seats { AreSeatsOf self.now seats.new }
+        ensures joined { seats.new ≡ all_joined seats.old other }
 
         // The two had seen beginnings of one history, and no event was an own one of both.
         ensures seen { AllZip HasSeenNoLess seats.old seats.new }
@@ -101,7 +104,7 @@ impl<V: Held + Drop> Venue<V> {
         seats: Seats,
     ) -> Result<Vec<V>, (Venue<V>, Seats, NoMemory)>
         requires seats { AreSeatsOf self seats }
-        requires parts { All (λ seat. seat.part ≡ whole) seats }
+        requires parts { HaveParts whole seats }
         ensures books { IfOk result (λ books. AllZip (IsBookOf V.journal V.limit V.setting) seats books.items) }
         ensures venue { IfErr result (λ refused. refused.0 ≡ self) }
         ensures seats { IfErr result (λ refused. refused.1 ≡ seats) }
