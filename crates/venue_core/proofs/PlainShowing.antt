@@ -1,12 +1,12 @@
 -- What a floor over books shows after one book was given a command.
-use Rattle.std.proofs.Common.{◌≡◌, ◌≢◌, ℕ, zero, suc, ◌+◌, ◌<◌, ◌≤◌, Bool, List, [], ◌∷◌, ◌++◌, map, length, set, get_or, sym, refl, ap, ◌∙◌, subst, arith, append_assoc, length-append, Option, None, Some, Result, IfOk, IfErr, OnOk, OnErr, slice_get, ℤ}
+use Rattle.std.proofs.Common.{◌≡◌, ◌≢◌, ℕ, zero, suc, ◌+◌, ◌≤◌, Bool, List, [], ◌∷◌, ◌++◌, map, length, get_or, sym, refl, ap, ◌∙◌, subst, arith, length-append, Option, None, Some, Result, IfOk, IfErr, OnOk, OnErr, slice_get, ℤ}
 use Rattle.std.specs.List.{All, range_with_len}
 use Rattle.std.specs.Prelude.{IfSome}
 use mathlib.Core.Logic.{dite}
 use native.Mathlib.Decide.{ℕ_discrete}
 use Rattle.std.proofs.lemmas.List.{append-nil}
 use Rattle.std.proofs.lemmas.List.Elements.{All-set}
-use Rattle.venue_words.specs.Floors.{FloorMark, Setup, SymbolView, TurnsRose, TurnsKept, Records, AddsNone, CostsAtMost, CostsNothing}
+use Rattle.venue_words.specs.Floors.{Setup, SymbolView, TurnsRose, TurnsKept, Records, AddsNone, CostsAtMost, CostsNothing}
 use Rattle.venue_words.specs.Journals.{StartsWith, event, IfFull}
 use Rattle.venue_words.specs.declared.command.Command.{Command}
 use Rattle.venue_words.specs.declared.command.Event.{Event}

@@ -1,6 +1,5 @@
 -- Gates and parts of seats that are split, joined and worked with.
-use Rattle.std.proofs.Common.{◌≡◌, ℕ, ◌+◌, ◌-◌, ◌∷◌, List, [], map, length, refl, sym, ap, ◌∙◌, subst, arith}
-use Rattle.std.specs.List.{All}
+use Rattle.std.proofs.Common.{◌≡◌, ℕ, ◌+◌, ◌-◌, ◌∷◌, List, [], map, refl, ap, ◌∙◌}
 use Rattle.std.proofs.lemmas.List.Elements.{All-nil, All-cons, All-head, All-tail}
 use Rattle.turn_gate.specs.Seats.{GateId, SeatState}
 use Rattle.venue_words.specs.Floors.{FloorMark}
@@ -85,9 +84,9 @@ marked_parts parts (p ∷ ps) (q ∷ qs) e have =
     let head : seat_mark p ≡ seat_mark q = (cc) in let tail : map seat_mark ps ≡ map seat_mark qs = (cc) in
     All-cons (Has parts) p ps ((one_mark p q head).1 ∙ All-head (Has parts) q qs have) (marked_parts parts ps qs tail (All-tail (Has parts) q qs have))
 
--- seats with the mark of others are of the same gates, and have as many parts
-pub same_mark_gates : (venue : VenueId) (ps qs : List SeatState) → mark_of venue ps ≡ mark_of venue qs → AreSeatsOf venue qs → AreSeatsOf venue ps
-same_mark_gates venue ps qs e are = marked_gates ps qs (ap (λ (mark : FloorMark). mark.seats) e) ∙ are
+-- seats with the mark of seats of a venue are of that venue, and have as many parts
+pub same_mark_gates : (other venue : VenueId) (ps qs : List SeatState) → mark_of other ps ≡ mark_of venue qs → AreSeatsOf venue qs → AreSeatsOf venue ps
+same_mark_gates other venue ps qs e are = marked_gates ps qs (ap (λ (mark : FloorMark). mark.seats) e) ∙ are
 
-pub same_mark_parts : (venue : VenueId) (parts : ℕ) (ps qs : List SeatState) → mark_of venue ps ≡ mark_of venue qs → HaveParts parts qs → HaveParts parts ps
-same_mark_parts venue parts ps qs e = marked_parts parts ps qs (ap (λ (mark : FloorMark). mark.seats) e)
+pub same_mark_parts : (other venue : VenueId) (parts : ℕ) (ps qs : List SeatState) → mark_of other ps ≡ mark_of venue qs → HaveParts parts qs → HaveParts parts ps
+same_mark_parts other venue parts ps qs e = marked_parts parts ps qs (ap (λ (mark : FloorMark). mark.seats) e)

@@ -97,12 +97,7 @@ fn work_counted<R: Wait, V: Held + Drop, L: Ledger>(
 }
 
 // Submits commands through the share's seats.
-fn work<R: Wait, V: Held + Drop>(
-    rt: &R,
-    venue: &Venue<V>,
-    share: Share,
-    count: u32,
-) -> Worked
+fn work<R: Wait, V: Held + Drop>(rt: &R, venue: &Venue<V>, share: Share, count: u32) -> Worked
     requires seats { AreSeatsOf venue.now share.seats }
     requires parts { HaveParts 1 share.seats }
     requires symbols { 3 ≤ length venue.now.gates }
@@ -252,7 +247,8 @@ fn books_of(alloc: Global, limit: u32) -> Result<Vec<Journal>, AllocError>
 // Whether the event is the next command of its feed at its symbol, of which `next` has the numbers.
 fn is_next(next: &mut [u32], event: &Event) -> bool {
     let Command::Quote {
-        bid: Some(number), ..
+        bid: Some(number),
+        ..
     } = event.command
     else {
         return false;
@@ -282,7 +278,10 @@ fn check_book<R: Abort>(
     }
     let look = book.look(1, 0).map_err(|_| AllocError)?;
     assert_eq!(rt; look.front as usize, book.events().len());
-    assert_eq!(rt; look.reports.len(), book.events().iter().filter(|event| event.feed == 1).count());
+    assert_eq!(rt;
+        look.reports.len(),
+        book.events().iter().filter(|event| event.feed == 1).count()
+    );
     Ok(())
 }
 

@@ -98,11 +98,7 @@ impl<V: Held + Drop> Venue<V> {
     /// Ends the venue and hands its books back, in the order of the symbols. The seats have all parts, so all
     /// seats that were split off were joined back. The memory is taken first, and a refusal hands venue and
     /// seats back as they were.
-    pub fn close(
-        self,
-        alloc: Global,
-        seats: Seats,
-    ) -> Result<Vec<V>, (Venue<V>, Seats, NoMemory)>
+    pub fn close(self, alloc: Global, seats: Seats) -> Result<Vec<V>, (Venue<V>, Seats, NoMemory)>
         requires seats { AreSeatsOf self seats }
         requires parts { HaveParts whole seats }
         ensures books { IfOk result (λ books. AllZip (IsBookOf V.journal V.limit V.setting) seats books.items) }

@@ -1,5 +1,5 @@
 -- The gates have the settings of the books.
-use Rattle.std.proofs.Common.{◌≡◌, ℕ, List, map, length, sym, ap, ◌∙◌, subst}
+use Rattle.std.proofs.Common.{◌≡◌, sym, ◌∙◌, subst}
 use Rattle.std.specs.List.{All}
 use Rattle.venue_words.specs.Floors.{Setup, setup_of}
 use Rattle.turn_gate.specs.Seats.{GateId}
@@ -13,6 +13,6 @@ invariant_of-venue g c =
     let limits = made.limits ∙ c.requires.limits in
     let ticks = c.in_ok-ticks.ensures.items ∙ c.as_slice.ensures in
     let setup : setup_of c.args.config.now ≡ setup_in (venue_id c.len.result c.len-2.result c.in_ok-ticks.ticks.items c.in_ok-gates.gates.items) =
-        λ k. record { members = sym c.len.ensures k; markets = sym c.len-2.ensures k; limits = sym limits k; ticks = sym ticks k } in
+    λ k. record { members = sym c.len.ensures k; markets = sym c.len-2.ensures k; limits = sym limits k; ticks = sym ticks k } in
     subst (λ (s : Setup). All (λ (gate : GateId). TakesConfigured g.V.Held.takes s gate.setting) c.in_ok-gates.gates.items) setup
-        (holds_of_each (TakesConfigured g.V.Held.takes (setup_of c.args.config.now)) (λ (gate : GateId). gate.setting) g.V.Held.setting c.in_ok-gates.gates.items c.args.books.items made.settings c.requires.takes)
+    (holds_of_each (TakesConfigured g.V.Held.takes (setup_of c.args.config.now)) (λ (gate : GateId). gate.setting) g.V.Held.setting c.in_ok-gates.gates.items c.args.books.items made.settings c.requires.takes)

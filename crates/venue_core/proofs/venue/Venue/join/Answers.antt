@@ -1,5 +1,5 @@
 -- The seats stay those of the venue's gates.
-use Rattle.std.proofs.Common.{◌≡◌, List, map, ap, ◌∙◌}
+use Rattle.std.proofs.Common.{List, map, ap, ◌∙◌}
 use Rattle.turn_gate.specs.Seats.{SeatState}
 use Rattle.venue_core.specs.SeatLaws.{gates_joined}
 use Rattle.venue_core.proofs.venue.Venue.join.Goals as goal

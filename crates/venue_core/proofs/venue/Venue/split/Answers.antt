@@ -1,5 +1,5 @@
 -- The seats stay those of the venue's gates.
-use Rattle.std.proofs.Common.{◌≡◌, List, map, ap, ◌∙◌}
+use Rattle.std.proofs.Common.{List, map, ap, ◌∙◌}
 use Rattle.turn_gate.specs.Seats.{SeatState}
 use Rattle.venue_core.specs.SeatLaws.{gates_after_split, gates_split_off}
 use Rattle.venue_core.proofs.venue.Venue.split.Goals as goal
