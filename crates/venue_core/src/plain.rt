@@ -32,7 +32,8 @@ impl<V: Held> Model for PlainVenue<V> {
     ghost view = { λ venue. plain_state venue.members venue.markets venue.ticks.items venue.books.items };
 
     ghost invariant = { λ venue. All (λ book. TakesConfigured V.takes
-        (plain_setup V.limit (plain_state venue.members venue.markets venue.ticks.items venue.books.items)) (V.setting book))
+        (plain_setup V.limit (plain_state venue.members venue.markets venue.ticks.items venue.books.items))
+        (V.setting book))
         venue.books.items };
 }
 

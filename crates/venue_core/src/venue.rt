@@ -4,7 +4,8 @@ ghost use Rattle.std.specs.List.{All, AllZip};
 ghost use Rattle.venue_words.specs.Floors.{setup_of};
 ghost use Rattle.turn_gate.specs.Rule.{whole};
 ghost use Rattle.venue_core.specs.Closing.{IsBookOf};
-ghost use Rattle.venue_core.specs.Joining.{IsFirstSeat, HaveParts, HasSeenNoLess, HasOwnNumbers, after_split, split_off, all_joined};
+ghost use Rattle.venue_core.specs.Joining.{IsFirstSeat, HaveParts, HasSeenNoLess, HasOwnNumbers};
+ghost use Rattle.venue_core.specs.Joining.{after_split, split_off, all_joined};
 ghost use Rattle.venue_core.specs.Venues.{AreSeatsOf, TakesConfigured, setup_in};
 
 use crate::calls;
@@ -33,7 +34,8 @@ impl<V: Held> Model for Venue<V> {
     ghost view = { λ venue. venue_id venue.members venue.markets venue.ticks.items venue.gates.items };
 
     ghost invariant = { λ venue. All (λ gate. TakesConfigured V.takes
-        (setup_in (venue_id venue.members venue.markets venue.ticks.items venue.gates.items)) gate.setting) venue.gates.items };
+        (setup_in (venue_id venue.members venue.markets venue.ticks.items venue.gates.items)) gate.setting)
+        venue.gates.items };
 }
 
 impl<V: Held + Drop> Venue<V> {
