@@ -28,7 +28,7 @@ use Rattle.eager_meaning.specs.Walk.{total_of}
 use Rattle.eager_meaning.specs.Entering.{Arrival, Entered, entered, enter, accepted_order, arrival_of_new, on_new}
 use Rattle.eager_meaning.specs.Changing.{cancel, on_cancel}
 use Rattle.market_laws.specs.Sound.{AreDifferent, IsNew, AllDiffer, IsHeld, IsLiveRow, IsSoundOrder, AreSound}
-use Rattle.market_laws.proofs.Lists.{all_filter}
+use Rattle.market_laws.specs.ListLaws.{all_filter}
 use Rattle.market_laws.proofs.Differing.{differ_filter, across_filter, differ_append, takes_within}
 use Rattle.market_laws.proofs.Backing.{length_after_all, held_after, still_held, live_unfilled, taker_trades, others_rest}
 use Rattle.market_laws.proofs.Naming.{get_kept, get_last, each_more, quantity_most}

@@ -8,7 +8,6 @@ pub mod Counting
 pub mod Differing
 pub mod Growing
 pub mod Lasting
-pub mod Lists
 pub mod Living
 pub mod Meeting
 pub mod Naming
@@ -21,4 +20,3 @@ pub mod Summing
 pub mod Sweeping
 pub mod Telling
 pub mod Valuing
-pub mod Walking

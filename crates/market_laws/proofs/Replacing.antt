@@ -20,7 +20,7 @@ use Rattle.eager_meaning.specs.Verdict.{verdict}
 use Rattle.eager_meaning.specs.Entering.{Arrival, enter}
 use Rattle.eager_meaning.specs.Changing.{without, replaced_order, only_lowers, with_leaves, resize, arrival_of_replace, on_replace}
 use Rattle.market_laws.specs.Sound.{AreDifferent, IsNew, AllDiffer, IsLiveRow, IsSoundOrder, AreSound}
-use Rattle.market_laws.proofs.Lists.{all_filter, all_map}
+use Rattle.market_laws.specs.ListLaws.{all_filter, all_map}
 use Rattle.market_laws.proofs.Differing.{KeepsNames, IsSameOrDiffers, each_same_or_differs, differ_map, across_map}
 use Rattle.market_laws.proofs.Backing.{length_changed}
 use Rattle.market_laws.proofs.Living.{IsLive, live_found}

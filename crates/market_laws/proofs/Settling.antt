@@ -37,7 +37,7 @@ use Rattle.eager_meaning.specs.Verdict.{verdict}
 use Rattle.eager_meaning.specs.Step.{view_now, on_status, outcome_of}
 use Rattle.market_laws.specs.Placed.{side_at, opposite, IsPlaced, AreWorthAtMost, IsPlacedBook}
 use Rattle.market_laws.specs.Trading.{shares_on, IsPricedWithin}
-use Rattle.market_laws.proofs.Lists.{all_filter, all_map}
+use Rattle.market_laws.specs.ListLaws.{all_filter, all_map}
 use Rattle.market_laws.proofs.Siding.{side_changed, sides_after_all, side_kept, side_of_last}
 use Rattle.market_laws.proofs.Meeting.{IsFairFill, stays_placed, fills_fair, left_placed, recheck_fair, same_option, reprice_places, same_sides}
 use Rattle.market_laws.proofs.Telling.{shares_told, IsNoTrade, none_told, none_priced, left_no_trade, trades_even, trades_priced}
