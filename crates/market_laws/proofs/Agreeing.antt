@@ -37,7 +37,7 @@ outcome_counts tick event (Replace member id orig terms) s =
     omega (arith, e)
 outcome_counts tick event (Request member id side) s = omega arith
 
-step_sound : (tick n : ℕ) (run : Run) (event : Event) → event.number ≡ n + 1 → IsSound n run.state → IsSound (n + 1) (step tick run event).state
+pub step_sound : (tick n : ℕ) (run : Run) (event : Event) → event.number ≡ n + 1 → IsSound n run.state → IsSound (n + 1) (step tick run event).state
 unfolding step
 step_sound tick n run event number is =
     record {
@@ -46,7 +46,7 @@ step_sound tick n run event number is =
       fewer = (let rows = outcome_fewer tick event.number event.command run.state in let fewer = is.fewer in omega (arith, rows, fewer));
     }
 
-no_order : (k : ℕ) (order : Order) → slice_get [] k ≡ Some order → IsSoundOrder order
+pub no_order : (k : ℕ) (order : Order) → slice_get [] k ≡ Some order → IsSoundOrder order
 no_order k order e = cc
 
 pub book_is_sound : BookIsSound

@@ -14,6 +14,7 @@ pub mod Naming
 pub mod Numbering
 pub mod Replacing
 pub mod Replying
+pub mod Reporting
 pub mod Settling
 pub mod Siding
 pub mod Summing

@@ -6,6 +6,7 @@ pub mod ListLaws
 pub mod Orders
 pub mod Placed
 pub mod Replies
+pub mod Reports
 pub mod Sound
 pub mod Trading
 pub mod WalkLaws
