@@ -21,7 +21,7 @@ use Rattle.eager_meaning.specs.Entering.{leftover_notice, leftover_notices, ente
 use Rattle.eager_meaning.specs.Step.{Run, runs, step, outcome_of, reports_from}
 use Rattle.market_laws.specs.Replies.{AreToldBy, IsAt, ReportsAreInPlace, answers_new, rule_broken, IsAnswer, IsAnsweredOnce, NewIsAnsweredOnce}
 use Rattle.market_laws.proofs.Growing.{runs_append}
-use Rattle.market_laws.proofs.Lists.{all_found, all_flat}
+use Rattle.market_laws.specs.ListLaws.{all_found, all_flat}
 
 -- what an event adds
 pub told_by : (markets tick : ℕ) (history : List Event) (event : Event)

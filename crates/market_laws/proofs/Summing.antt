@@ -35,7 +35,7 @@ use Rattle.eager_meaning.specs.Changing.{cancel, on_cancel, replaced_order, only
 use Rattle.eager_meaning.specs.Orders.{order_named, changed_at}
 use Rattle.eager_meaning.specs.Step.{Run, runs, step, view_now, on_status, outcome_of, reports_from}
 use Rattle.market_laws.specs.Orders.{shares_of_order, shares_told_of, CumIsSumOfTrades}
-use Rattle.market_laws.proofs.Lists.{all_found, all_flat}
+use Rattle.market_laws.specs.ListLaws.{all_found, all_flat}
 use Rattle.market_laws.proofs.Siding.{changed_next}
 use Rattle.market_laws.proofs.Numbering.{kept_by_all, numbered_from_none}
 

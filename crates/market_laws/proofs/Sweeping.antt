@@ -20,8 +20,8 @@ use Rattle.eager_meaning.specs.Walk.{total_of}
 use Rattle.eager_meaning.specs.Matching.{takes_of, fills_of, row_after, shares_of, rows_after}
 use Rattle.eager_meaning.specs.Recheck.{Sides, meet, crosses_any, sweep, recheck}
 use Rattle.market_laws.specs.Sound.{AreDifferent, IsNew, AllDiffer, IsHeld, IsLiveRow, IsSoundOrder, AreSound}
-use Rattle.market_laws.proofs.Lists.{all_map}
-use Rattle.market_laws.proofs.Walking.{rows_after_all, in_priority_all}
+use Rattle.market_laws.specs.ListLaws.{all_map}
+use Rattle.market_laws.specs.WalkLaws.{rows_after_all, in_priority_all}
 use Rattle.market_laws.proofs.Differing.{different_back, KeepsNames, IsSameOrDiffers, each_same_or_differs, differ_filter, differ_map, across_map, across_back, differ_in_priority, TakesDiffer, takes_differ, takes_within, taken_by, taken_cons, none_taken, Fits, shares_found}
 use Rattle.market_laws.proofs.Backing.{traded_in, found_after, none_before, traded_by_walk, held_after, still_held, live_unfilled, same_leaves, IsFit, takes_fit, no_take, takes_new, taker_trades, others_rest, met_held}
 

@@ -1,7 +1,12 @@
+pub mod Apart
+pub mod Fewer
 pub mod Fitting
 pub mod Histories
+pub mod ListLaws
 pub mod Orders
 pub mod Placed
 pub mod Replies
+pub mod Reports
 pub mod Sound
 pub mod Trading
+pub mod WalkLaws

@@ -1,5 +1,10 @@
 //! Laws of the orders of a book.
-ghost use Rattle.market_laws.specs.Fitting.{NewTradesFit, QuoteTradesFit, RowsArePlaced};
+ghost use Rattle.market_laws.specs.Fitting.{
+  NewTradesFit,
+  QuoteTradesFit,
+  ReplaceTradesFit,
+  RowsArePlaced,
+};
 ghost use Rattle.market_laws.specs.Orders.{CumIsSumOfTrades};
 ghost use Rattle.market_laws.specs.Sound.{BookIsSound};
 
@@ -41,4 +46,12 @@ pub fn quote_trades_fit()
 // Rules out a New that trades more than its quantity, and one that takes more from a resting order than it has left.
 pub fn new_trades_fit()
     ensures { NewTradesFit }
+{}
+
+/// The trades of a Replace that breaks no rule, where its order enters anew at the next event, fit: both orders of each are
+/// there, and have its shares left when it is made.
+// Rules out a Replace whose order trades again what it had traded before, and one that trades with the row that it
+// replaces.
+pub fn replace_trades_fit()
+    ensures { ReplaceTradesFit }
 {}
