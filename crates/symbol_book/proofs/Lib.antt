@@ -1,0 +1,9 @@
+pub mod Accepting
+pub mod Conditions
+pub mod LiveRows
+pub mod Numbers
+pub mod Reporting
+pub mod Resting
+pub mod SameBest
+pub mod Trading
+pub mod UsedNames

@@ -1,0 +1,22 @@
+//! The book of one symbol: it takes commands into a journal and answers with the reports that the market's rules make of
+//! them.
+#![tactic(auto)]
+
+mod admitting;
+mod book;
+mod canceling;
+mod entering;
+mod finding;
+pub mod hashing;
+mod id_buffers;
+pub mod ids;
+mod log;
+mod preparing;
+mod quoting;
+mod refusing;
+mod replacing;
+pub mod room;
+mod showing;
+mod status;
+mod trading;
+mod working;
