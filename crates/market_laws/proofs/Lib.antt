@@ -6,7 +6,9 @@ pub mod Backing
 pub mod Bounding
 pub mod Counting
 pub mod Differing
+pub mod Distinct
 pub mod Growing
+pub mod Identifying
 pub mod Lasting
 pub mod Living
 pub mod Meeting
@@ -20,4 +22,5 @@ pub mod Siding
 pub mod Summing
 pub mod Sweeping
 pub mod Telling
+pub mod Using
 pub mod Valuing

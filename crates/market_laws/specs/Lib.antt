@@ -2,7 +2,9 @@ pub mod Apart
 pub mod Fewer
 pub mod Fitting
 pub mod Histories
+pub mod Ids
 pub mod ListLaws
+pub mod Names
 pub mod Orders
 pub mod Placed
 pub mod Replies
