@@ -7,6 +7,7 @@ pub mod Bounding
 pub mod Counting
 pub mod Differing
 pub mod Distinct
+pub mod Enduring
 pub mod Growing
 pub mod Identifying
 pub mod Lasting
@@ -14,11 +15,13 @@ pub mod Living
 pub mod Meeting
 pub mod Naming
 pub mod Numbering
+pub mod Owning
 pub mod Replacing
 pub mod Replying
 pub mod Reporting
 pub mod Settling
 pub mod Siding
+pub mod Standing
 pub mod Summing
 pub mod Sweeping
 pub mod Telling

@@ -10,5 +10,6 @@ pub mod Placed
 pub mod Replies
 pub mod Reports
 pub mod Sound
+pub mod Standing
 pub mod Trading
 pub mod WalkLaws
