@@ -33,7 +33,7 @@ use Rattle.eager_meaning.specs.Entering.{Arrival, Entered, entered, enter, accep
 use Rattle.eager_meaning.specs.Changing.{without, cancel, on_cancel, replaced_order, only_lowers, with_leaves, resize, arrival_of_replace, on_replace}
 use Rattle.eager_meaning.specs.Step.{Run, runs, step, on_status, outcome_of}
 use Rattle.market_laws.specs.Sound.{AreDifferent, IsSound}
-use Rattle.market_laws.specs.Standing.{if_it_rests, entries_after, EntryRun, entry_step, AreStanding, RowsStand}
+use Rattle.market_laws.specs.Standing.{if_it_rests, entries_after, EntryRun, entry_step, AreStanding, RowsStand, same_run}
 use Rattle.market_laws.specs.ListLaws.{all_filter, all_map}
 use Rattle.market_laws.proofs.Admitting.{RowsAgree, IsSoundArrival, new_arrival, own_first, new_to_others, later}
 use Rattle.market_laws.proofs.Agreeing.{step_sound, no_order}
@@ -321,7 +321,7 @@ unfolding on_new
 new_all tick n member id terms (Some rule) s entries a h = h
 new_all tick n member id terms None s entries a h = new_stands tick n member id terms s entries a h
 
-outcome_stands : (tick n : ℕ) (command : Command) (s : State) (entries : List (Option Row)) → RowsAgree n s → HasEntries entries s → HasEntries (entries_after tick s (n + 1) command entries) (outcome_of tick (n + 1) command s).state
+pub outcome_stands : (tick n : ℕ) (command : Command) (s : State) (entries : List (Option Row)) → RowsAgree n s → HasEntries entries s → HasEntries (entries_after tick s (n + 1) command entries) (outcome_of tick (n + 1) command s).state
 unfolding outcome_of on_status
 outcome_stands tick n (Quote market bid offer) s entries a h = quote_stands n (n + 1) market (record { bid = bid; offer = offer }) s entries a h
 outcome_stands tick n (New member id terms) s entries a h = new_all tick n member id terms _ s entries a h
@@ -344,10 +344,6 @@ step_entered tick n so_far event number is =
       sound = step_sound tick n so_far.run event number is.sound;
       entries = subst (λ (m : ℕ). HasEntries (entries_after tick s m event.command so_far.entries) (outcome_of tick m event.command s).state) (sym number) (outcome_stands tick n event.command s so_far.entries is.sound.rows is.entries);
     }
-
-same_run : (tick : ℕ) (so_far : EntryRun) (events : List Event) → (fold (entry_step tick) so_far events).run ≡ fold (step tick) so_far.run events
-same_run tick so_far [] = refl
-same_run tick so_far (event ∷ events) = same_run tick (entry_step tick so_far event) events
 
 no_row : HaveRows (MayHaveRow []) [] [] []
 no_row k order may at more = cc

@@ -1,4 +1,5 @@
 -- The row of each order: the one with which it entered last.
+use Rattle.std.proofs.Common.{refl, ap, ◌∙◌}
 use Rattle.std.specs.Prelude.{◌≡◌, ℕ, ◌-◌, Bool, nat_lt, if◌then◌else◌, List, [], ◌∷◌, ◌++◌, length, fold, slice_get, slice_set, Option, Some, None, option_map}
 use Rattle.std.specs.Option.{option_map_or}
 use Rattle.venue_words.specs.declared.command.Command.{Command}
@@ -85,3 +86,22 @@ RowsStand =
     (markets tick : ℕ) (history : List Event)
     → IsNumbered history
     → AreStanding (entry_rows markets tick history) (runs markets tick history).state
+
+-- ---- one more event of a history
+
+pub same_run : (tick : ℕ) (so_far : EntryRun) (events : List Event) → (fold (entry_step tick) so_far events).run ≡ fold (step tick) so_far.run events
+same_run tick so_far [] = refl
+same_run tick so_far (event ∷ events) = same_run tick (entry_step tick so_far event) events
+
+fold_one : (tick : ℕ) (so_far : EntryRun) (events : List Event) (event : Event) → fold (entry_step tick) so_far (events ++ event ∷ []) ≡ entry_step tick (fold (entry_step tick) so_far events) event
+fold_one tick so_far [] event = refl
+fold_one tick so_far (first ∷ events) event = fold_one tick (entry_step tick so_far first) events event
+
+-- the entries after one more event are those that it makes of the entries before it
+pub next_entries : (markets tick : ℕ) (history : List Event) (event : Event) → entry_rows markets tick (history ++ event ∷ []) ≡ entries_after tick (runs markets tick history).state event.number event.command (entry_rows markets tick history)
+unfolding runs
+next_entries markets tick history event =
+    let first : EntryRun = record { run = record { state = initial markets; reports = [] }; entries = [] } in
+    let before : EntryRun = fold (entry_step tick) first history in
+    ap (λ (so_far : EntryRun). so_far.entries) (fold_one tick first history event)
+    ∙ ap (λ (run : Run). entries_after tick run.state event.number event.command before.entries) (same_run tick first history)
