@@ -53,7 +53,7 @@ pub book_is_sound : BookIsSound
 unfolding runs
 book_is_sound markets tick history numbered =
     let first : Run = record { state = initial markets; reports = [] } in
-    let all = kept_by_all tick (λ n run. IsSound n run.state) (step_sound tick) 0 first history (numbered_from_none history numbered)
+    let all = kept_by_all (step tick) (λ n run. IsSound n run.state) (step_sound tick) 0 first history (numbered_from_none history numbered)
     (record { rows = record { own_live = tt; others_live = tt; own_differ = tt; others_differ = tt; differ = tt; sound = no_order }; few = omega arith; fewer = omega arith }) in
     let count : 0 + length history ≡ length history = omega arith in
     subst (λ (n : ℕ). IsSound n (fold (step tick) first history).state) count all

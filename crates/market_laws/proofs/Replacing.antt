@@ -32,16 +32,16 @@ joined_differ [] ys a b c = b
 joined_differ (x ∷ xs) ys a b c = (all_append (λ y. AreDifferent x.row y.row) xs ys a.0 c.0, joined_differ xs ys a.1 b c.1)
 
 -- the row of a live order, among the rows of both sides
-record IsAmong (n : ℕ) (s : State) (live : Live) : Type 0 where
-  row : IsLiveRow n s.orders live.row.row
-  number : live.row.row.order ≡ live.number
-  buys : AllByRecursion (λ y. IsSameOrDiffers live.row.row y.row) s.buys
-  sells : AllByRecursion (λ y. IsSameOrDiffers live.row.row y.row) s.sells
+pub record IsAmong (n : ℕ) (s : State) (live : Live) : Type 0 where
+  pub row : IsLiveRow n s.orders live.row.row
+  pub number : live.row.row.order ≡ live.number
+  pub buys : AllByRecursion (λ y. IsSameOrDiffers live.row.row y.row) s.buys
+  pub sells : AllByRecursion (λ y. IsSameOrDiffers live.row.row y.row) s.sells
 
 same_number : (a b : ℕ) → (a == b) ≡ true → a ≡ b
 same_number a b e = grind (arith, nat_tests)
 
-among : (n : ℕ) (s : State) (live : Live) → RowsAgree n s → IsLive s.orders (resting s) live → IsAmong n s live
+pub among : (n : ℕ) (s : State) (live : Live) → RowsAgree n s → IsLive s.orders (resting s) live → IsAmong n s live
 unfolding row_of_order
 among n s live a is =
     let all = joined_differ s.buys s.sells a.own_differ a.others_differ a.differ in
@@ -64,6 +64,15 @@ keeps_leaves : (entry leaves : ℕ) → KeepsNames (with_leaves entry leaves)
 keeps_leaves entry leaves x =
     let P : Priced → Type 0 = λ y. (y.row.entry ≡ x.row.entry) × (y.row.order ≡ x.row.order) in
     elim (x.row.entry == entry) as (λ b. P (cond b (record x { row = record x.row { leaves = leaves } }) x)) [ true ↦ (refl, refl) | false ↦ (refl, refl) ]
+
+-- the rows that are left where a row is taken out
+pub rest_differ : (row : Row) (rows : List Priced) → AllByRecursion (λ y. IsSameOrDiffers row y.row) rows → AllByRecursion (λ y. AreDifferent row y.row) (without row.entry rows)
+rest_differ row [] a = tt
+rest_differ row (y ∷ ys) a =
+    elim a.0 [
+      | inl same ↦ let e : (y.row.entry == row.entry) ≡ true = eq-eqb _ _ same.0 in rw e (rest_differ row ys a.1)
+      | inr other ↦ let e : (y.row.entry == row.entry) ≡ false = ne_eqb _ _ (λ g. other.entry (sym g)) in rw e (other, rest_differ row ys a.1)
+    ]
 
 module _ (tick n : ℕ) (id : List ℕ) (terms : Terms) (live : Live) (s : State) (at : slice_get s.orders live.number ≡ Some live.order) (more : live.order.cum < quantity_of terms) where
   resized_row : (r x : Priced) → r.row.order ≡ live.number → IsSameOrDiffers r.row x.row → IsLiveRow n s.orders x.row → IsLiveRow n (changed_at (replaced_order tick id terms) live.number s.orders) (with_leaves r.row.entry (quantity_of terms - live.order.cum) x).row
@@ -116,19 +125,10 @@ module _ (tick n : ℕ) (id : List ℕ) (terms : Terms) (live : Live) (s : State
         sound = changed_sound a.sound;
       }
 
-  -- the rows that are left where the live order's row is taken out
-  rest_differ : (rows : List Priced) → AllByRecursion (λ y. IsSameOrDiffers live.row.row y.row) rows → AllByRecursion (λ y. AreDifferent live.row.row y.row) (without live.row.row.entry rows)
-  rest_differ [] a = tt
-  rest_differ (y ∷ ys) a =
-      elim a.0 [
-        | inl same ↦ let e : (y.row.entry == live.row.row.entry) ≡ true = eq-eqb _ _ same.0 in rw e (rest_differ ys a.1)
-        | inr other ↦ let e : (y.row.entry == live.row.row.entry) ≡ false = ne_eqb _ _ (λ g. other.entry (sym g)) in rw e (other, rest_differ ys a.1)
-      ]
-
   without_live : (rows : List Priced) → live.row.row.order ≡ live.number → AllByRecursion (λ y. IsSameOrDiffers live.row.row y.row) rows → AllByRecursion (λ x. IsLiveRow n s.orders x.row) rows → AllByRecursion (λ x. IsLiveRow n (changed_at (replaced_order tick id terms) live.number s.orders) x.row) (without live.row.row.entry rows)
   without_live rows number d l =
       all_both (λ y. AreDifferent live.row.row y.row) (λ x. IsLiveRow n s.orders x.row) (λ x. IsLiveRow n (changed_at (replaced_order tick id terms) live.number s.orders) x.row)
-      (λ x other alive. other_row n s.orders (replaced_order tick id terms) live.number x.row (λ g. other.order (number ∙ g)) alive) (without live.row.row.entry rows) (rest_differ rows d)
+      (λ x other alive. other_row n s.orders (replaced_order tick id terms) live.number x.row (λ g. other.order (number ∙ g)) alive) (without live.row.row.entry rows) (rest_differ live.row.row rows d)
       (all_filter (λ x. IsLiveRow n s.orders x.row) (λ x. not (x.row.entry == live.row.row.entry)) rows l)
 
   taken_out : RowsAgree n s → IsAmong n s live → AreSound n (changed_at (replaced_order tick id terms) live.number s.orders) (without live.row.row.entry s.buys) (without live.row.row.entry s.sells)
@@ -148,7 +148,7 @@ module _ (tick n : ℕ) (id : List ℕ) (terms : Terms) (live : Live) (s : State
   again_new m row rows entry order number d l =
       all_both (λ y. AreDifferent live.row.row y.row) (λ x. x.row.entry ≤ m) (λ x. AreDifferent row x.row)
       (λ x other most. record { entry = λ same. omega arith; order = λ same. other.order (number ∙ (sym order ∙ same)) })
-      (without live.row.row.entry rows) (rest_differ rows d) (all_filter (λ x. x.row.entry ≤ m) (λ x. not (x.row.entry == live.row.row.entry)) rows l)
+      (without live.row.row.entry rows) (rest_differ live.row.row rows d) (all_filter (λ x. x.row.entry ≤ m) (λ x. not (x.row.entry == live.row.row.entry)) rows l)
 
 entries_of : (n : ℕ) (orders : List Order) (rows : List Priced) → AllByRecursion (λ x. IsLiveRow n orders x.row) rows → AllByRecursion (λ x. x.row.entry ≤ n) rows
 entries_of n orders rows a = all_weaken (λ x. IsLiveRow n orders x.row) (λ x. x.row.entry ≤ n) (λ x l. l.held.entered) rows a

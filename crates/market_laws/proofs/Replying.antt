@@ -88,7 +88,7 @@ record AnswersFirst (event member : ℕ) (id : List ℕ) (terms : Terms) (broken
   says : IsAnswer event id terms broken answer.kind
   once : AllByRecursion NoAnswer others
 
-view_id : (order : Order) (x : Priced) → ((view_of order (Some x)).id ≡ order.id) × ((view_of order (Some x)).first ≡ order.first)
+pub view_id : (order : Order) (x : Priced) → ((view_of order (Some x)).id ≡ order.id) × ((view_of order (Some x)).first ≡ order.first)
 unfolding view_of view_at view_closed
 view_id order x =
     let P : View → Type 0 = λ v. (v.id ≡ order.id) × (v.first ≡ order.first) in

@@ -197,7 +197,7 @@ reports_are_few markets tick history numbered =
     let first : Run = record { state = initial markets; reports = [] } in
     let next : (n : ℕ) (run : Run) (event : Event) → event.number ≡ n + 1 → IsFew n run → IsFew (n + 1) (step tick run event) =
     λ n run event number is. record { sound = step_sound tick n run event number is.sound; most = step_few tick n run event number is.sound is.most } in
-    let all = kept_by_all tick IsFew next 0 first history (numbered_from_none history numbered)
+    let all = kept_by_all (step tick) IsFew next 0 first history (numbered_from_none history numbered)
     (record { sound = record { rows = record { own_live = tt; others_live = tt; own_differ = tt; others_differ = tt; differ = tt; sound = no_order }; few = omega arith; fewer = omega arith }; most = omega arith }) in
     let count : 0 + length history ≡ length history = omega arith in
     (subst (λ (n : ℕ). IsFew n (fold (step tick) first history)) count all).most

@@ -372,5 +372,5 @@ cum_at n (o ∷ os) (suc k) order a h =
 pub cum_is_sum : CumIsSumOfTrades
 unfolding runs
 cum_is_sum markets tick history numbered k order h =
-    let is = kept_by_all tick IsSummed (step_summed tick) 0 _ history (numbered_from_none history numbered) (record { sums = λ first. refl; firsts = tt }) in
+    let is = kept_by_all (step tick) IsSummed (step_summed tick) 0 _ history (numbered_from_none history numbered) (record { sums = λ first. refl; firsts = tt }) in
     cum_at _ _ k order is.firsts h ∙ is.sums order.first

@@ -7,6 +7,7 @@ ghost use Rattle.market_laws.specs.Fitting.{
 };
 ghost use Rattle.market_laws.specs.Orders.{CumIsSumOfTrades};
 ghost use Rattle.market_laws.specs.Sound.{BookIsSound};
+ghost use Rattle.market_laws.specs.Standing.{RowsStand};
 
 /// Each order's CumQty is the sum of the trades that the reports tell of it, by the event of its New.
 // Rules out a trade that is told and not added to its order, one that is added and not told, a Replace that loses or
@@ -54,4 +55,13 @@ pub fn new_trades_fit()
 // replaces.
 pub fn replace_trades_fit()
     ensures { ReplaceTradesFit }
+{}
+
+/// The row of each order is the one with which it entered last, by its New or by a Replace that entered it anew. It has left
+/// the quantity without CumQty, and is marked as traded where CumQty is above 0. An order has no row where it is filled or
+/// canceled, and where it may not rest.
+// Rules out an order with shares left that lost its row, a row of a filled or canceled order, and one whose key, limit,
+// minimum, method, member or entry changes while it rests.
+pub fn rows_stand()
+    ensures { RowsStand }
 {}
