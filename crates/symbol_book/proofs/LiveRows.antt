@@ -1,7 +1,6 @@
 -- The row of an order, by the rows with which orders entered.
-use Rattle.std.proofs.Common.{◌≡◌, ℕ, ◌<◌, ◌≤◌, Bool, true, false, cond, List, [], ◌∷◌, length, Option, Some, None, refl, ap, sym, ◌∙◌, subst, inl, inr, arith}
-use Rattle.std.specs.Prelude.{◌⊎◌, ◌==◌, ◌||◌, slice_get, slice_index_or, suc, zero, find, option_map, option_and_then}
-use Rattle.std.specs.List.{AllByRecursion, list_any}
+use Rattle.std.proofs.Common.{◌≡◌, ℕ, zero, suc, ◌<◌, ◌≤◌, Bool, true, false, cond, List, [], ◌∷◌, length, Option, Some, None, refl, ap, sym, ◌∙◌, subst, inl, inr, arith}
+use Rattle.std.specs.Prelude.{◌⊎◌, ◌==◌, nat_lt, slice_get, slice_index_or, find, option_map, option_and_then}
 use Rattle.std.proofs.lemmas.Bool.Decides.{nat_tests}
 use Rattle.venue_words.specs.declared.row.Row.{Row}
 use Rattle.venue_words.specs.declared.row.Priced.{Priced}
@@ -10,145 +9,72 @@ use Rattle.eager_meaning.specs.declared.order.Live.{Live}
 use Rattle.eager_meaning.specs.Orders.{order_named, with_row, live_named}
 use Rattle.eager_meaning.specs.Showing.{row_of_order}
 use Rattle.match_core.specs.BothSides.{Rests}
+use Rattle.market_laws.specs.Standing.{row_by_now, row_left}
 use Rattle.symbol_book.specs.Finding.{IsNumber, IsLiveRow, IsFoundAs, IsFound}
-use Rattle.symbol_book.specs.Rows.{has_row, IsEntered, IsOpen, AreEntered}
+use Rattle.symbol_book.specs.Rows.{AreEntered}
 use Rattle.symbol_book.specs.declared.finding.Found.{Found}
-
--- a row of an order that has one
-pub record HasRow (P : Priced → Type 0) (number : ℕ) (rows : List Priced) : Type 0 where
-  pub x : Priced
-  pub is : row_of_order number rows ≡ Some x
-  pub order : x.row.order ≡ number
-  pub has : P x
 
 same_number : (a b : ℕ) → (a == b) ≡ true → a ≡ b
 same_number a b e = grind (arith, nat_tests)
 
-or_is : (a b : Bool) → cond a true b ≡ (a || b)
-or_is true b = refl
-or_is false b = refl
+less_or_not : (a b : ℕ) → (a < b) ⊎ (b ≤ a)
+less_or_not a b = grind arith
 
-pub row_found : (P : Priced → Type 0) (number : ℕ) (rows : List Priced) → AllByRecursion P rows → has_row number rows ≡ true → HasRow P number rows
+some_priced : (x y : Priced) → Some x ≡ Some y → x ≡ y
+some_priced x y e = cc
+
+-- the row that is found is of the order
+found_order : (number : ℕ) (rows : List Priced) (x : Priced) → row_of_order number rows ≡ Some x → x.row.order ≡ number
 unfolding row_of_order
-row_found P number [] all e = cc
-row_found P number (x ∷ xs) all e =
-    (elim (x.row.order == number) as (λ b. (x.row.order == number) ≡ b → HasRow P number (x ∷ xs)) [
-      | true ↦ λ f. record { x = x; is = rw f refl; order = same_number _ _ f; has = all.0 }
-      | false ↦ λ f.
-          let rest : cond (x.row.order == number) true (has_row number xs) ≡ true = or_is (x.row.order == number) (has_row number xs) ∙ e in
-          let more = row_found P number xs all.1 (subst (λ (b : Bool). cond b true (has_row number xs) ≡ true) f rest) in
-          record { x = more.x; is = rw f more.is; order = more.order; has = more.has }
-    ]) refl
-
--- an order that no row is of has none
-pub no_row : (number : ℕ) (rows : List Priced) → AllByRecursion (λ x. x.row.order ≡ number → ⊥) rows → row_of_order number rows ≡ None
-unfolding row_of_order
-no_row number [] all = refl
-no_row number (x ∷ xs) all =
-    (elim (x.row.order == number) as (λ b. (x.row.order == number) ≡ b → row_of_order number (x ∷ xs) ≡ None) [
-      | true ↦ λ f. absurd (all.0 (same_number _ _ f))
-      | false ↦ λ f. rw f (no_row number xs all.1)
-    ]) refl
-
-each_of : (P Q : Priced → Type 0) → ((x : Priced) → P x → Q x) → (xs : List Priced) → AllByRecursion P xs → AllByRecursion Q xs
-each_of P Q f [] a = tt
-each_of P Q f (x ∷ xs) a = (f x a.0, each_of P Q f xs a.1)
-
-some_order : (x y : Order) → Some x ≡ Some y → x ≡ y
-some_order x y e = cc
-
-some_row : (x y : Row) → Some (Some x) ≡ Some (Some y) → x ≡ y
-some_row x y e = cc
-
--- an order that is filled has no row
-filled_none : (number : ℕ) (order : Order) (orders : List Order) (rows : List Priced) → AllByRecursion (IsOpen orders) rows → slice_get orders number ≡ Some order → order.quantity ≤ order.cum → row_of_order number rows ≡ None
-filled_none number order orders rows live at filled =
-    no_row number rows
-    (each_of (IsOpen orders) (λ x. x.row.order ≡ number → ⊥)
-    (λ x o e.
-    let same : o.order ≡ order = some_order _ _ (sym o.is ∙ (ap (slice_get orders) e ∙ at)) in
-    let more : order.cum < order.quantity = subst (λ (y : Order). y.cum < y.quantity) same o.more in
-    absurd (omega arith)) rows live)
-
--- nor has one that may not rest
-closed_none : (number : ℕ) (entered : List (Option Row)) (rows : List Priced) → AllByRecursion (IsEntered entered) rows → slice_get entered number ≡ Some None → row_of_order number rows ≡ None
-closed_none number entered rows each at =
-    no_row number rows
-    (each_of (IsEntered entered) (λ x. x.row.order ≡ number → ⊥)
-    (λ x i e. let two : Some (Some i.row) ≡ Some None = sym i.is ∙ (ap (slice_get entered) e ∙ at) in absurd (cc)) rows each)
-
--- the live order with a number
-pub live_as : (number : ℕ) (row : Row) (order : Order) (entered : List (Option Row)) (orders : List Order) (rows : List Priced) → AreEntered entered orders rows
-    → slice_get orders number ≡ Some order → slice_get entered number ≡ Some (Some row) → order.cum < order.quantity
-    → (x : Priced) × (row_of_order number rows ≡ Some x) × IsFoundAs orders rows (record { number = number; order = order; row = x }) (record { number = number; row = row })
-live_as number row order entered orders rows are at is more =
-    let here = row_found (IsEntered entered) number rows are.each (are.rest number row order is at more) in
-    let same : here.has.row ≡ row = some_row _ _ (sym here.has.is ∙ (ap (slice_get entered) here.order ∙ is)) in
-    let terms : here.x.row ≡ record row { leaves = here.x.row.leaves; traded = here.x.row.traded } =
-    here.has.same ∙ ap (λ (r : Row). record r { leaves = here.x.row.leaves; traded = here.x.row.traded }) same in
-    let order_is : row.order ≡ number = sym (ap (λ (r : Row). r.order) terms) ∙ here.order in (
-      here.x,
-      here.is,
-      record {
-        number = refl;
-        at = at;
-        more = more;
-        row = here.is;
-        order = order_is;
-        same = terms;
-        rests = record {
-          found = here.x;
-          is = ap (λ (k : ℕ). row_of_order k rows) order_is ∙ here.is;
-          key_is = ap (λ (r : Row). r.key) terms;
-          cap_is = ap (λ (r : Row). r.cap) terms;
-          entry_is = ap (λ (r : Row). r.entry) terms;
-        };
-      },
-    )
-
--- no live order has a number
-none_live : (number : ℕ) (row : Option Row) (order : Order) (entered : List (Option Row)) (orders : List Order) (rows : List Priced) → AreEntered entered orders rows
-    → slice_get orders number ≡ Some order → IsLiveRow orders entered number row → row ≡ None → row_of_order number rows ≡ None
-none_live number row order entered orders rows are at live none =
-    elim (less_or_not order.cum order.quantity) [
-      | inl more ↦ closed_none number entered rows are.each (live.live order at more ∙ ap Some none)
-      | inr filled ↦ filled_none number order orders rows are.live at filled
-    ]
-  where
-    less_or_not : (a b : ℕ) → (a < b) ⊎ (b ≤ a)
-    less_or_not a b = grind arith
-
--- what is found of a live order that an id names
-pub found_live : (member : ℕ) (id : List ℕ) (entered : List (Option Row)) (orders : List Order) (rows : List Priced) (number : ℕ) (row : Row) → AreEntered entered orders rows
-    → IsNumber member id orders (order_named member id orders) (Some number) → IsLiveRow orders entered number (Some row) → IsFound orders rows (live_named member id orders rows) (Some (record { number = number; row = row }))
-unfolding live_named
-found_live member id entered orders rows number row are named live =
-    elim (less_or_not named.order.cum named.order.quantity) [
-      | inl more ↦
-          let r = live_as number row named.order entered orders rows are named.at (live.live named.order named.at more) more in
-          (record { number = number; order = named.order; row = r.0 }, rw (named.is, r.1) refl, r.2)
-      | inr filled ↦ let none : Some row ≡ None = live.filled named.order named.at filled in absurd (cc)
-    ]
-  where
-    less_or_not : (a b : ℕ) → (a < b) ⊎ (b ≤ a)
-    less_or_not a b = grind arith
-
-pub none_found : (member : ℕ) (id : List ℕ) (entered : List (Option Row)) (orders : List Order) (rows : List Priced) (number : ℕ) → AreEntered entered orders rows
-    → IsNumber member id orders (order_named member id orders) (Some number) → IsLiveRow orders entered number None → live_named member id orders rows ≡ None
-unfolding live_named
-none_found member id entered orders rows number are named live =
-    rw (named.is, none_live number None named.order entered orders rows are named.at live refl) refl
-
-pub none_named : (member : ℕ) (id : List ℕ) (orders : List Order) (rows : List Priced) → order_named member id orders ≡ None → live_named member id orders rows ≡ None
-unfolding live_named
-none_named member id orders rows e = rw e refl
-
--- ---- what a status request shows
+found_order number [] x e = cc
+found_order number (y ∷ ys) x e =
+    (elim (y.row.order == number) as (λ b. (y.row.order == number) ≡ b → cond b (Some y) (row_of_order number ys) ≡ Some x → x.row.order ≡ number) [
+      | true ↦ λ f g. subst (λ (z : Priced). z.row.order ≡ number) (some_priced _ _ g) (same_number _ _ f)
+      | false ↦ λ f g. found_order number ys x g
+    ]) refl e
 
 pub get_at : {T : Type 0} (xs : List T) (k : ℕ) (x : T) → k < length xs → x ≡ slice_index_or xs k x → slice_get xs k ≡ Some x
 get_at [] k x less e = absurd (omega arith)
 get_at (y ∷ ys) zero x less e = ap Some (sym e)
 get_at (y ∷ ys) (suc k) x less e = get_at ys k x (omega arith) e
+
+-- there is an element at each place
+pub record HasAt {T : Type 0} (xs : List T) (k : ℕ) : Type 0 where
+  pub x : T
+  pub is : slice_get xs k ≡ Some x
+
+pub has_at : {T : Type 0} (xs : List T) (k : ℕ) → k < length xs → HasAt xs k
+has_at [] k less = absurd (omega arith)
+has_at (y ∷ ys) zero less = record { x = y; is = refl }
+has_at (y ∷ ys) (suc k) less = let more = has_at ys k (omega arith) in record { x = more.x; is = more.is }
+
+pub at_within : {T : Type 0} (xs : List T) (k : ℕ) (x : T) → slice_get xs k ≡ Some x → k < length xs
+at_within [] k x e = cc
+at_within (y ∷ ys) zero x e = omega arith
+at_within (y ∷ ys) (suc k) x e = omega (arith, at_within ys k x e)
+
+-- a row that is there
+record HasRow (number : ℕ) (rows : List Priced) (row : Row) : Type 0 where
+  x : Priced
+  is : row_of_order number rows ≡ Some x
+  row_is : x.row ≡ row
+
+some_row : (x y : Row) → Some x ≡ Some y → x ≡ y
+some_row x y e = cc
+
+row_there : (number : ℕ) (rows : List Priced) (row : Row) → option_map (λ (x : Priced). x.row) (row_of_order number rows) ≡ Some row → HasRow number rows row
+row_there number rows row e =
+    (elim (row_of_order number rows) as (λ found. row_of_order number rows ≡ found → option_map (λ (x : Priced). x.row) found ≡ Some row → HasRow number rows row) [
+      | None ↦ λ f g. cc
+      | Some x ↦ λ f g. record { x = x; is = f; row_is = some_row _ _ g }
+    ]) refl e
+
+none_there : (number : ℕ) (rows : List Priced) → option_map (λ (x : Priced). x.row) (row_of_order number rows) ≡ None → row_of_order number rows ≡ None
+none_there number rows e =
+    (elim (row_of_order number rows) as (λ found. row_of_order number rows ≡ found → option_map (λ (x : Priced). x.row) found ≡ None → row_of_order number rows ≡ None) [
+      | None ↦ λ f g. f
+      | Some x ↦ λ f g. cc
+    ]) refl e
 
 -- the row of a live order rests
 pub live_rests : (number : ℕ) (row : Row) (order : Order) (entered : List (Option Row)) (orders : List Order) (rows : List Priced) → AreEntered entered orders rows
@@ -156,13 +82,72 @@ pub live_rests : (number : ℕ) (row : Row) (order : Order) (entered : List (Opt
     → (x : Priced) × (row_of_order number rows ≡ Some x) × IsFoundAs orders rows (record { number = number; order = order; row = x }) (record { number = number; row = row })
 live_rests number row order entered orders rows are at live =
     elim (less_or_not order.cum order.quantity) [
-      | inl more ↦ live_as number row order entered orders rows are at (live.live order at more) more
+      | inl more ↦
+          let less : nat_lt order.cum order.quantity ≡ true = grind (arith, nat_tests) in
+          let left : row_left order (Some row) ≡ Some (row_by_now order row) = rw less refl in
+          let here = row_there number rows (row_by_now order row) (are.each number order (Some row) at (live.live order at more) ∙ left) in
+          let number_is = found_order number rows here.x here.is in
+          let order_is : row.order ≡ number = sym (ap (λ (r : Row). r.order) here.row_is) ∙ number_is in
+          let terms : here.x.row ≡ record row { leaves = here.x.row.leaves; traded = here.x.row.traded } =
+          here.row_is ∙ ap (λ (r : Row). record row { leaves = r.leaves; traded = r.traded }) (sym here.row_is) in (
+            here.x,
+            here.is,
+            record {
+              number = refl;
+              at = at;
+              more = more;
+              row = here.is;
+              order = order_is;
+              same = terms;
+              rests = record {
+                found = here.x;
+                is = ap (λ (k : ℕ). row_of_order k rows) order_is ∙ here.is;
+                key_is = ap (λ (r : Row). r.key) terms;
+                cap_is = ap (λ (r : Row). r.cap) terms;
+                entry_is = ap (λ (r : Row). r.entry) terms;
+              };
+            },
+          )
       | inr filled ↦ let none : Some row ≡ None = live.filled order at filled in absurd (cc)
     ]
-  where
-    less_or_not : (a b : ℕ) → (a < b) ⊎ (b ≤ a)
-    less_or_not a b = grind arith
 
+-- an order that is not live has none
 pub none_rests : (number : ℕ) (order : Order) (entered : List (Option Row)) (orders : List Order) (rows : List Priced) → AreEntered entered orders rows
     → slice_get orders number ≡ Some order → IsLiveRow orders entered number None → row_of_order number rows ≡ None
-none_rests number order entered orders rows are at live = none_live number None order entered orders rows are at live refl
+none_rests number order entered orders rows are at live =
+    elim (less_or_not order.cum order.quantity) [
+      | inl more ↦
+          let less : nat_lt order.cum order.quantity ≡ true = grind (arith, nat_tests) in
+          let left : row_left order None ≡ None = rw less refl in
+          none_there number rows (are.each number order None at (live.live order at more) ∙ left)
+      | inr filled ↦
+          let within = at_within orders number order at in
+          let entry = has_at entered number (omega (arith, are.count)) in
+          let less : nat_lt order.cum order.quantity ≡ false = grind (arith, nat_tests) in
+          let left : row_left order entry.x ≡ None = rw less refl in
+          none_there number rows (are.each number order entry.x at entry.is ∙ left)
+    ]
+
+-- what is found of a live order that an id names
+pub found_live : (member : ℕ) (id : List ℕ) (entered : List (Option Row)) (orders : List Order) (rows : List Priced) (number : ℕ) (row : Row) → AreEntered entered orders rows
+    → IsNumber member id orders (order_named member id orders) (Some number) → IsLiveRow orders entered number (Some row) → IsFound orders rows (live_named member id orders rows) (Some (record { number = number; row = row }))
+unfolding live_named
+found_live member id entered orders rows number row are named live =
+    let r = live_rests number row named.order entered orders rows are named.at live in
+    (record { number = number; order = named.order; row = r.0 }, rw (named.is, r.1) refl, r.2)
+
+pub none_found : (member : ℕ) (id : List ℕ) (entered : List (Option Row)) (orders : List Order) (rows : List Priced) (number : ℕ) → AreEntered entered orders rows
+    → IsNumber member id orders (order_named member id orders) (Some number) → IsLiveRow orders entered number None → live_named member id orders rows ≡ None
+unfolding live_named
+none_found member id entered orders rows number are named live =
+    rw (named.is, none_rests number named.order entered orders rows are named.at live) refl
+
+pub none_named : (member : ℕ) (id : List ℕ) (orders : List Order) (rows : List Priced) → order_named member id orders ≡ None → live_named member id orders rows ≡ None
+unfolding live_named
+none_named member id orders rows e = rw e refl
+
+-- rows of which one is found are some
+pub some_rest : (number : ℕ) (rows : List Priced) (x : Priced) → row_of_order number rows ≡ Some x → 0 < length rows
+unfolding row_of_order
+some_rest number [] x e = cc
+some_rest number (y ∷ ys) x e = omega arith

@@ -10,6 +10,7 @@ use Rattle.venue_words.specs.Best.{best_of}
 use Rattle.venue_words.specs.Conditions.{IsTick, most_events}
 use Rattle.eager_meaning.specs.declared.order.Order.{Order}
 use Rattle.eager_meaning.specs.Step.{IsNumbered, runs}
+use Rattle.market_laws.specs.Standing.{entry_rows}
 use Rattle.symbol_book.specs.Ids.{UsedId, IdList, NameOrders, used_of}
 use Rattle.symbol_book.specs.Log.{Log}
 use Rattle.symbol_book.specs.Orders.{IsSmall}
@@ -42,4 +43,6 @@ pub record IsKept (tick limit : ℕ) (markets : List Best) (buys sells : List Pr
   pub past : latest ≤ length journal
   pub short : length journal ≤ limit
   pub numbered : IsNumbered journal
-  pub kept : KeepsOrders entered orders (buys ++ sells) ids.entries
+  pub rows : entered ≡ entry_rows (length markets) tick journal
+  pub small : All IsSmall orders
+  pub named : NameOrders ids.entries orders

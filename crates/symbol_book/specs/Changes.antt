@@ -1,4 +1,4 @@
--- What each command leaves of the rows with which orders entered, and of the used ids.
+-- What each command leaves of the used ids, and what a Replace leaves of the rows with which orders entered.
 use Rattle.std.specs.Prelude.{ℕ, if◌then◌else◌, List, [], ◌∷◌, ◌++◌, length, slice_set, Option, None}
 use Rattle.std.specs.Option.{option_map_or}
 use Rattle.venue_words.specs.declared.command.Command.{Command}
@@ -13,8 +13,8 @@ use Rattle.eager_meaning.specs.Orders.{known_of, is_used, live_named}
 use Rattle.eager_meaning.specs.State.{State, resting}
 use Rattle.eager_meaning.specs.Terms.{is_immediate, row_of}
 use Rattle.eager_meaning.specs.Verdict.{verdict}
+use Rattle.market_laws.specs.Standing.{if_it_rests}
 use Rattle.symbol_book.specs.Ids.{UsedId}
-use Rattle.symbol_book.specs.Rows.{kept_row}
 
 -- the rule that a command breaks, with the live order that it names
 abbrev pub broken_by : ℕ → ℕ → List ℕ → Command → State → Option Live → Option Rule
@@ -26,28 +26,12 @@ entered_by_replace tick event member terms live entered =
     if only_lowers tick terms live
     then entered
     else slice_set entered live.number
-    (kept_row (is_immediate terms) (row_of tick event live.number member live.order.cum terms))
+    (if_it_rests (is_immediate terms) (row_of tick event live.number member live.order.cum terms))
 
 -- the orders that a Replace that breaks no rule examines
 abbrev pub examined_by_replace : ℕ → ℕ → ℕ → List ℕ → List ℕ → Terms → Live → State → ℕ
 examined_by_replace tick event member id orig terms live s =
     if only_lowers tick terms live then 0 else examined_by_arrival (arrival_of_replace tick event member id orig terms live s)
-
--- the rows after each command
-unfoldable pub entered_after : ℕ → ℕ → Command → State → List (Option Row) → List (Option Row)
-entered_after tick event (Quote market bid offer) s entered = entered
-entered_after tick event (New member id terms) s entered =
-    option_map_or (λ rule. entered) (broken_by tick member id (New member id terms) s None)
-    (entered ++ kept_row (is_immediate terms) (row_of tick event (length s.orders) member 0 terms) ∷ [])
-entered_after tick event (Cancel member id orig) s entered =
-    let live = live_named member orig s.orders (resting s) in
-    option_map_or (λ rule. entered) (broken_by tick member id (Cancel member id orig) s live)
-    (option_map_or (λ found. slice_set entered found.number None) live entered)
-entered_after tick event (Replace member id orig terms) s entered =
-    let live = live_named member orig s.orders (resting s) in
-    option_map_or (λ rule. entered) (broken_by tick member id (Replace member id orig terms) s live)
-    (option_map_or (λ found. entered_by_replace tick event member terms found entered) live entered)
-entered_after tick event (Status member id side) s entered = entered
 
 -- one more id, used for an order
 abbrev pub with_id : ℕ → List ℕ → ℕ → List UsedId → List UsedId

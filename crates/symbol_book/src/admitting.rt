@@ -13,13 +13,13 @@ ghost use Rattle.eager_meaning.specs.Step.{outcome_of};
 ghost use Rattle.eager_meaning.specs.Terms.{is_immediate, key_of, quantity_of, row_of};
 ghost use Rattle.eager_meaning.specs.Verdict.{verdict};
 ghost use Rattle.eager_meaning.specs.Work.{examined, examined_by_arrival};
-ghost use Rattle.symbol_book.specs.Changes.{entered_after, ids_after, with_id};
+ghost use Rattle.market_laws.specs.Standing.{entries_after, if_it_rests};
+ghost use Rattle.symbol_book.specs.Changes.{ids_after, with_id};
 ghost use Rattle.symbol_book.specs.Fitting.{NewFits};
 ghost use Rattle.symbol_book.specs.Ids.{used_of};
 ghost use Rattle.symbol_book.specs.Log.{Reports};
 ghost use Rattle.symbol_book.specs.Orders.{IsSmall};
 ghost use Rattle.symbol_book.specs.Room.{CopiesOwn};
-ghost use Rattle.symbol_book.specs.Rows.{kept_row};
 ghost use Rattle.symbol_book.specs.State.{state_of};
 
 use crate::entering::{enter, entering_row, price_now};
@@ -54,7 +54,7 @@ fn accepted_order(tick: u32, event: u32, member: u32, id: Bytes, terms: &Terms) 
 
 /// The row that is kept of an order as it enters: none of one that stays only to trade at once.
 pub fn kept_row(immediate: bool, row: Row) -> Option<Row>
-    ensures { result ≡ kept_row immediate row }
+    ensures { result ≡ if_it_rests immediate row }
 {
     if immediate { None } else { Some(row) }
 }
@@ -93,7 +93,7 @@ fn accept<E: Engine, L: Ledger>(
     requires buffers { 2 * (length (E.buys engine.old) + length (E.sells engine.old)) + 3 ≤ log.old.buffers }
     ensures state { (markets : List Best) → best_of markets ≡ E.best engine.old → (enter (arrival_of_new tick event.now.number member id.now terms.now (state_of markets (E.buys engine.old) (E.sells engine.old) orders.old.items (used_of ids.old.entries)))).state ≡ state_of markets (E.buys engine.new) (E.sells engine.new) orders.new.items (used_of ids.new.entries) }
     ensures reports { (markets : List Best) → best_of markets ≡ E.best engine.old → Reports event.now log.old.list 1 (enter (arrival_of_new tick event.now.number member id.now terms.now (state_of markets (E.buys engine.old) (E.sells engine.old) orders.old.items (used_of ids.old.entries)))).notices log.new.list result }
-    ensures entered { entered.new.items ≡ entered.old.items ++ kept_row (is_immediate terms.now) (row_of tick event.now.number (length orders.old.items) member 0 terms.now) ∷ [] }
+    ensures entered { entered.new.items ≡ entered.old.items ++ if_it_rests (is_immediate terms.now) (row_of tick event.now.number (length orders.old.items) member 0 terms.now) ∷ [] }
     ensures ids { ids.new.entries ≡ with_id member id.now (length orders.old.items) ids.old.entries }
     ensures small { All IsSmall orders.new.items }
     ensures most { (markets : List Best) → best_of markets ≡ E.best engine.old → steps.new ≤ steps.old + 2048 * (E.width engine.old + 1) * (examined_by_arrival (arrival_of_new tick event.now.number member id.now terms.now (state_of markets (E.buys engine.old) (E.sells engine.old) orders.old.items (used_of ids.old.entries))) + 1) }
@@ -171,7 +171,7 @@ fn reject(log: &mut ReportLog, event: &Event, member: u32, id: Bytes, terms: &Te
 }
 
 /// A New: it is rejected, or it enters.
-#[tactic(auto, unfolding(eager_meaning::specs::Step::outcome_of, eager_meaning::specs::Entering::on_new, crate::specs::Changes::entered_after, crate::specs::Changes::ids_after))]
+#[tactic(auto, unfolding(eager_meaning::specs::Step::outcome_of, eager_meaning::specs::Entering::on_new, crate::specs::Changes::ids_after))]
 pub fn on_new<E: Engine, L: Ledger>(
     tick: u32,
     engine: &mut E,
@@ -203,7 +203,7 @@ pub fn on_new<E: Engine, L: Ledger>(
     requires buffers { 2 * (length (E.buys engine.old) + length (E.sells engine.old)) + 3 ≤ log.old.buffers }
     ensures state { (markets : List Best) → best_of markets ≡ E.best engine.old → (outcome_of tick event.now.number event.now.command (state_of markets (E.buys engine.old) (E.sells engine.old) orders.old.items (used_of ids.old.entries))).state ≡ state_of markets (E.buys engine.new) (E.sells engine.new) orders.new.items (used_of ids.new.entries) }
     ensures reports { (markets : List Best) → best_of markets ≡ E.best engine.old → Reports event.now log.old.list 1 (outcome_of tick event.now.number event.now.command (state_of markets (E.buys engine.old) (E.sells engine.old) orders.old.items (used_of ids.old.entries))).notices log.new.list result }
-    ensures entered { (markets : List Best) → entered.new.items ≡ entered_after tick event.now.number event.now.command (state_of markets (E.buys engine.old) (E.sells engine.old) orders.old.items (used_of ids.old.entries)) entered.old.items }
+    ensures entered { (markets : List Best) → entered.new.items ≡ entries_after tick (state_of markets (E.buys engine.old) (E.sells engine.old) orders.old.items (used_of ids.old.entries)) event.now.number event.now.command entered.old.items }
     ensures ids { (markets : List Best) → ids.new.entries ≡ ids_after tick event.now.command (state_of markets (E.buys engine.old) (E.sells engine.old) orders.old.items (used_of ids.old.entries)) ids.old.entries }
     ensures small { All IsSmall orders.new.items }
     ensures most { (markets : List Best) → best_of markets ≡ E.best engine.old → steps.new ≤ steps.old + 2048 * (E.width engine.old + 1) * (examined tick (state_of markets (E.buys engine.old) (E.sells engine.old) orders.old.items (used_of ids.old.entries)) event.now.number event.now.command + 1) }

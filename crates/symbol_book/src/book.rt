@@ -7,6 +7,10 @@ use crate::room::Room;
 use crate::working::work;
 use best_prices::Markets;
 use eager_meaning::Order;
+use market_laws::{
+    book_is_sound, bought_shares_are_sold, cum_is_sum_of_trades, new_is_answered_once, new_trades_fit,
+    quote_trades_fit, replace_trades_fit, reports_are_few, rows_stand, trades_are_within_quote,
+};
 use match_core::Engine;
 use std::alloc::Global;
 use std::marker::Model;
@@ -53,13 +57,20 @@ impl<E: Engine + Drop> Model for BookOver<E> {
 }
 
 impl<E: Engine + Drop> BookOver<E> {
-    ghost use Rattle.std.specs.Prelude.{◌≡◌, ◌+◌, ◌<◌, ◌≤◌, ◌++◌, ◌∷◌, [], Some, None, true, length, OnOk, OnErr, IfOk, IfErr};
+    ghost use Rattle.std.specs.Prelude.{◌≡◌, ℕ, ◌+◌, ◌<◌, ◌≤◌, ◌++◌, ◌∷◌, [], Some, None, true, length, slice_get, OnOk, IfOk, IfErr};
     ghost use Rattle.venue_words.specs.Conditions.{IsTick, most_events};
     ghost use Rattle.venue_words.specs.Journals.{IfFull};
+    ghost use Rattle.venue_words.specs.declared.price.Side.TheVariants.{Buy, Sell};
     ghost use Rattle.eager_meaning.specs.Step.{runs};
     ghost use Rattle.eager_meaning.specs.Work.{bound, groups};
+    ghost use Rattle.eager_meaning.specs.declared.order.Order.{Order};
+    ghost use Rattle.market_laws.specs.Orders.{shares_told_of};
+    ghost use Rattle.market_laws.specs.Sound.{IsSound};
+    ghost use Rattle.market_laws.specs.Trading.{shares_traded};
     ghost use Rattle.symbol_book.specs.Commands.{takes_command, key_for};
+    ghost use Rattle.symbol_book.specs.Market.{TradesWithinQuote, EachNewAnswered};
     ghost use Rattle.symbol_book.specs.Room.{IsRoomFor};
+    ghost use Rattle.symbol_book.specs.Setting.{setting_of, markets_in, tick_in};
 
     /// A book without events, over an engine without rows.
     pub(crate) fn over(
@@ -95,11 +106,27 @@ impl<E: Engine + Drop> BookOver<E> {
         })
     }
 
-    /// The reports of all events.
+    /// The reports of all events: those that the market's rules make of the journal.
     pub fn reports(&self) -> &[Report]
         ensures list { result.now ≡ self.now.reports }
         ensures runs { result.now ≡ (runs self.now.markets self.now.tick self.now.journal).reports }
+
+        // Shares are neither made nor lost, each order's CumQty is the sum of its trades, and its quantity is CumQty plus
+        // leaves while it is live.
+        ensures shares { shares_traded Buy result.now ≡ shares_traded Sell result.now }
+        ensures sums { (k : ℕ) (order : Order) → slice_get (runs self.now.markets self.now.tick self.now.journal).state.orders k ≡ Some order
+            → order.cum ≡ shares_told_of order.first result.now }
+        ensures sound { IsSound (length self.now.journal) (runs self.now.markets self.now.tick self.now.journal).state }
+
+        // No trade is outside the national quote after its event, and each New has one answer, first.
+        ensures within { TradesWithinQuote self.now.markets self.now.tick self.now.journal }
+        ensures answered { EachNewAnswered self.now.markets self.now.tick self.now.journal }
     {
+        bought_shares_are_sold();
+        cum_is_sum_of_trades();
+        book_is_sound();
+        trades_are_within_quote();
+        new_is_answered_once();
         self.log.as_slice()
     }
 
@@ -111,18 +138,48 @@ impl<E: Engine + Drop> BookOver<E> {
     }
 
     /// How many orders rest.
-    pub fn resting(&self) -> usize
+    pub fn resting(&self) -> u32
         ensures { result ≡ length (runs self.now.markets self.now.tick self.now.journal).state.buys
             + length (runs self.now.markets self.now.tick self.now.journal).state.sells }
     {
-        self.engine.len()
+        book_is_sound();
+        self.engine.len() as u32
     }
 
     /// How many peg groups rest: the different keys of the resting orders.
-    pub fn groups(&self) -> usize
+    pub fn groups(&self) -> u32
         ensures { result ≡ groups (runs self.now.markets self.now.tick self.now.journal).state }
     {
-        self.engine.groups()
+        book_is_sound();
+        self.engine.groups() as u32
+    }
+
+    /// How many reports there are.
+    pub(crate) fn front(&self) -> u32
+        ensures { result ≡ length self.now.reports }
+    {
+        reports_are_few();
+        self.log.as_slice().len() as u32
+    }
+
+    /// The number of the next event.
+    pub(crate) fn next_number(&self) -> u32
+        ensures { result ≡ length self.now.journal + 1 }
+    {
+        self.journal.len() as u32 + 1
+    }
+
+    /// The allocator of copies.
+    pub(crate) fn alloc(&self) -> Global {
+        self.alloc
+    }
+
+    /// The markets and the tick can be read from the setting.
+    pub(crate) fn parts_of_setting(&self)
+        ensures markets { markets_in (setting_of self.now.markets self.now.tick) ≡ self.now.markets }
+        ensures tick { tick_in (setting_of self.now.markets self.now.tick) ≡ self.now.tick }
+    {
+        let _tick = self.tick;
     }
 
     /// Makes all room that a command can need, so that `apply` takes no memory. Room stays from event to event, and only what
@@ -143,6 +200,7 @@ impl<E: Engine + Drop> BookOver<E> {
         let Ok(room) = room_for(self.alloc, command) else {
             return Err(FloorRefusal::NoMemory);
         };
+        book_is_sound();
         let key = key_for(self.tick, command);
         let rows = self.engine.len();
         self.ready = None;
@@ -176,6 +234,11 @@ impl<E: Engine + Drop> BookOver<E> {
         ensures most { steps.new ≤ steps.old + bound self.old.tick
             (runs self.old.markets self.old.tick self.old.journal).state event.number event.command }
     {
+        book_is_sound();
+        rows_stand();
+        quote_trades_fit();
+        new_trades_fit();
+        replace_trades_fit();
         work(
             self.tick,
             &mut self.markets,

@@ -3,11 +3,13 @@
 #![tactic(auto)]
 
 mod admitting;
-mod book;
+pub mod book;
 mod canceling;
+mod copying;
 mod entering;
 mod finding;
 pub mod hashing;
+mod held;
 mod id_buffers;
 pub mod ids;
 mod log;
@@ -20,3 +22,7 @@ mod showing;
 mod status;
 mod trading;
 mod working;
+
+pub use book::BookOver;
+pub use hashing::HashSeed;
+pub use room::Room;

@@ -5,6 +5,7 @@ ghost use Rattle.venue_words.specs.Best.{best_of};
 ghost use Rattle.venue_words.specs.Conditions.{IsTick, longest_id};
 ghost use Rattle.venue_words.specs.declared.command.Command.TheVariants.{Replace};
 ghost use Rattle.venue_words.specs.declared.price.Best.{Best};
+ghost use Rattle.venue_words.specs.declared.row.Priced.{Priced};
 ghost use Rattle.eager_meaning.specs.declared.order.Live.{Live};
 ghost use Rattle.eager_meaning.specs.declared.order.Order.{Order};
 ghost use Rattle.eager_meaning.specs.Changing.{arrival_of_replace, only_lowers, replace, replaced_order, resize};
@@ -14,6 +15,7 @@ ghost use Rattle.eager_meaning.specs.Orders.{changed_at, is_used, known_of, live
 ghost use Rattle.eager_meaning.specs.Terms.{is_immediate, key_of, quantity_of, row_of};
 ghost use Rattle.eager_meaning.specs.Verdict.{verdict};
 ghost use Rattle.eager_meaning.specs.Work.{examined, examined_by_arrival};
+ghost use Rattle.market_laws.specs.Standing.{if_it_rests};
 ghost use Rattle.symbol_book.specs.Book.{KeepsOrders};
 ghost use Rattle.symbol_book.specs.Changes.{entered_by_replace, examined_by_replace, with_id};
 ghost use Rattle.symbol_book.specs.Finding.{IsFoundAs};
@@ -22,7 +24,6 @@ ghost use Rattle.symbol_book.specs.Ids.{used_of};
 ghost use Rattle.symbol_book.specs.Log.{Reports};
 ghost use Rattle.symbol_book.specs.Orders.{IsSmall};
 ghost use Rattle.symbol_book.specs.Room.{CopiesOwn, CopiesOrig};
-ghost use Rattle.symbol_book.specs.Rows.{kept_row};
 ghost use Rattle.symbol_book.specs.State.{state_of};
 ghost use Rattle.symbol_book.specs.Worked.{IsWorked};
 
@@ -62,6 +63,16 @@ fn only_lowers(tick: u32, terms: &Terms, old: &Row, quantity: u32) -> bool
         && same_method(new.method, old.method)
         && !is_immediate(terms)
         && quantity_of(terms) <= quantity
+}
+
+/// The same, of a live order that was found.
+fn lowers(tick: u32, terms: &Terms, orders: &[Order], found: &Found) -> bool
+    requires tick { IsTick tick }
+    requires here { found.now.number < length orders.now }
+    ensures { (rows : List Priced) (live : Live) → IsFoundAs orders.now rows live found.now → result ≡ only_lowers tick terms.now live }
+{
+    let order = &orders[found.number as usize];
+    only_lowers(tick, terms, &found.row, order.quantity)
 }
 
 /// An order gets the terms and the id of a replace; what it traded is kept.
@@ -175,7 +186,7 @@ fn reenter<E: Engine, L: Ledger>(
     requires buffers { 2 * (length (E.buys engine.old) + length (E.sells engine.old)) + 3 ≤ log.old.buffers }
     ensures state { (markets : List Best) (live : Live) → best_of markets ≡ E.best engine.old → IsFoundAs orders.old.items (E.buys engine.old ++ E.sells engine.old) live found → (enter (arrival_of_replace tick event.now.number member room.own.id.items room.orig.id.items terms.now live (state_of markets (E.buys engine.old) (E.sells engine.old) orders.old.items (used_of ids.old.entries)))).state ≡ state_of markets (E.buys engine.new) (E.sells engine.new) orders.new.items (used_of ids.new.entries) }
     ensures reports { (markets : List Best) (live : Live) → best_of markets ≡ E.best engine.old → IsFoundAs orders.old.items (E.buys engine.old ++ E.sells engine.old) live found → Reports event.now log.old.list 1 (enter (arrival_of_replace tick event.now.number member room.own.id.items room.orig.id.items terms.now live (state_of markets (E.buys engine.old) (E.sells engine.old) orders.old.items (used_of ids.old.entries)))).notices log.new.list result }
-    ensures entered { (live : Live) → IsFoundAs orders.old.items (E.buys engine.old ++ E.sells engine.old) live found → entered.new.items ≡ slice_set entered.old.items found.number (kept_row (is_immediate terms.now) (row_of tick event.now.number found.number member live.order.cum terms.now)) }
+    ensures entered { (live : Live) → IsFoundAs orders.old.items (E.buys engine.old ++ E.sells engine.old) live found → entered.new.items ≡ slice_set entered.old.items found.number (if_it_rests (is_immediate terms.now) (row_of tick event.now.number found.number member live.order.cum terms.now)) }
     ensures ids { ids.new.entries ≡ with_id member room.own.id.items found.number ids.old.entries }
     ensures small { All IsSmall orders.new.items }
     ensures most { (markets : List Best) (live : Live) → best_of markets ≡ E.best engine.old → IsFoundAs orders.old.items (E.buys engine.old ++ E.sells engine.old) live found → steps.new ≤ steps.old + 512 + 2048 * (E.width engine.old + 1) * (examined_by_arrival (arrival_of_replace tick event.now.number member room.own.id.items room.orig.id.items terms.now live (state_of markets (E.buys engine.old) (E.sells engine.old) orders.old.items (used_of ids.old.entries))) + 1) }
@@ -253,8 +264,7 @@ fn replace<E: Engine, L: Ledger>(
     ensures best { E.best engine.new ≡ E.best engine.old }
     ensures latest { E.latest engine.new ≤ event.now.number }
 {
-    let quantity = orders[found.number as usize].quantity;
-    if only_lowers(tick, terms, &found.row, quantity) {
+    if lowers(tick, terms, orders, &found) {
         resize(
             tick, engine, orders, ids, log, event, member, terms, room, found, steps,
         )
@@ -298,7 +308,7 @@ pub fn on_replace<E: Engine, L: Ledger>(
     ensures worked { (markets : List Best) → best_of markets ≡ E.best engine.old → IsWorked tick event.now (state_of markets (E.buys engine.old) (E.sells engine.old) orders.old.items (used_of ids.old.entries)) entered.old.items ids.old.entries log.old.list (state_of markets (E.buys engine.new) (E.sells engine.new) orders.new.items (used_of ids.new.entries)) entered.new.items ids.new.entries log.new.list result }
     ensures small { All IsSmall orders.new.items }
     ensures most { (markets : List Best) → best_of markets ≡ E.best engine.old → steps.new ≤ steps.old + 2048 + 2048 * (E.width engine.old + 1) * (examined tick (state_of markets (E.buys engine.old) (E.sells engine.old) orders.old.items (used_of ids.old.entries)) event.now.number event.now.command + 1) }
-    ensures idle { steps.new ≡ steps.old ⊎ 0 < length (E.buys engine.old) + length (E.sells engine.old) }
+    ensures idle { (steps.new ≡ steps.old) ⊎ (0 < length (E.buys engine.old ++ E.sells engine.old)) }
     ensures best { E.best engine.new ≡ E.best engine.old }
     ensures latest { E.latest engine.new ≤ event.now.number }
 {

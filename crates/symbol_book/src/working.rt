@@ -28,7 +28,7 @@ use std::sync::ledger::Ledger;
 use venue_words::{Best, Command, Event, Row, Steps};
 
 /// Works a command at its event, without memory, and answers the next place of its reports.
-#[tactic(auto, unfolding(eager_meaning::specs::Step::outcome_of, crate::specs::Changes::entered_after, crate::specs::Changes::ids_after))]
+#[tactic(auto, unfolding(eager_meaning::specs::Step::outcome_of, crate::specs::Changes::ids_after))]
 pub fn work<E: Engine, L: Ledger>(
     tick: u32,
     markets: &mut Markets,

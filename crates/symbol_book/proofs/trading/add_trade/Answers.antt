@@ -1,7 +1,7 @@
 use Rattle.std.proofs.Common.{◌<◌, ◌^◌, arith}
 use Rattle.std.proofs.lemmas.List.Elements.{All-set}
 use Rattle.symbol_book.specs.Orders.{IsSmall}
-use Rattle.symbol_book.proofs.Trading.{at_place, traded_small}
+use Rattle.symbol_book.proofs.SmallOrders.{at_place, traded_small}
 use Rattle.symbol_book.proofs.trading.add_trade.Goals as goal
 
 pub returns-clause-small : goal.returns-clause-small
