@@ -1,6 +1,6 @@
 -- What a New that breaks no rule has.
-use Rattle.std.proofs.Common.{◌≡◌, ℕ, ◌<◌, ◌≤◌, Bool, true, false, refl, arith, rules, List, [], ◌∷◌}
-use Rattle.std.specs.Prelude.{Option, Some, None, is_some, is_none, unwrap_or, ℤ, pos, negsuc, option_map, option_and_then, unsigned_abs, nat_le}
+use Rattle.std.proofs.Common.{◌≡◌, ℕ, ◌<◌, ◌≤◌, Bool, true, false, refl, arith, List, [], ◌∷◌}
+use Rattle.std.specs.Prelude.{Option, Some, None, is_none, unwrap_or, ℤ, pos, negsuc, option_map, option_and_then, unsigned_abs}
 use Rattle.std.proofs.lemmas.Bool.Decides.{nat_tests}
 use Rattle.venue_words.specs.declared.command.Command.TheVariants.{New}
 use Rattle.venue_words.specs.declared.command.Terms.{Terms}

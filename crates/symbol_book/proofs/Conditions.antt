@@ -1,6 +1,6 @@
 -- The keys, the caps and the shares of terms keep to their limits.
-use Rattle.std.proofs.Common.{◌≡◌, ℕ, ◌+◌, ◌-◌, ◌<◌, ◌≤◌, Bool, true, false, cond, refl, arith, rules}
-use Rattle.std.specs.Prelude.{Option, Some, None, ℤ, pos, negsuc, ◌≤ℤ◌, ◌*ℤ◌, option_map, option_and_then, unwrap_or, unsigned_abs, is_none, nat_le, int_le, ◌%◌, ◌==◌, ◌&&◌, if◌then◌else◌}
+use Rattle.std.proofs.Common.{◌≡◌, ℕ, ◌≤◌, true, false, cond, refl, arith, rules}
+use Rattle.std.specs.Prelude.{Option, Some, None, ℤ, pos, negsuc, ◌≤ℤ◌, ◌*ℤ◌, option_map, option_and_then, unwrap_or, unsigned_abs, nat_le, int_le, ◌%◌, ◌==◌, ◌&&◌, if◌then◌else◌}
 use Rattle.std.specs.Option.{option_map_or}
 use Rattle.std.specs.Bool.{then_some}
 use Rattle.std.proofs.lemmas.Bool.Decides.{nat_tests}
@@ -15,7 +15,7 @@ use Rattle.venue_words.specs.declared.row.Reference.TheVariants.{Limit}
 use Rattle.venue_words.specs.declared.row.Rounding.TheVariants.{Unrounded}
 use Rattle.venue_words.specs.Conditions.{IsTick, IsKey, IsRow}
 use Rattle.venue_words.specs.Price.{value_of}
-use Rattle.eager_meaning.specs.Terms.{within, whole_quotient, price_in, offset_in, offset_of, side_of, is_pegged, peg_reference, rounding_of, key_of, limit_of, cap_of, row_of, passes}
+use Rattle.eager_meaning.specs.Terms.{within, whole_quotient, price_in, offset_in, offset_of, side_of, is_pegged, peg_reference, rounding_of, key_of, row_of, passes}
 use Rattle.eager_meaning.specs.declared.amount.TheConstants.{ONE_AMOUNT, UNIT_AMOUNT}
 
 -- ---- offsets

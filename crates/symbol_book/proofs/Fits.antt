@@ -1,6 +1,6 @@
 -- What a command needs of the state that it finds holds after every history.
-use Rattle.std.proofs.Common.{◌≡◌, ℕ, zero, suc, ◌+◌, ◌<◌, ◌≤◌, Bool, true, false, ◌&&◌, List, [], ◌∷◌, ◌++◌, length, Some, None, refl, ap, sym, ◌∙◌, subst, arith}
-use Rattle.std.specs.Prelude.{nat_lt, slice_get, slice_index_or, slice_set, Option}
+use Rattle.std.proofs.Common.{◌≡◌, ℕ, zero, suc, ◌+◌, ◌<◌, Bool, true, false, ◌&&◌, List, [], ◌∷◌, length, Some, refl, sym, subst, arith}
+use Rattle.std.specs.Prelude.{nat_lt, slice_get, slice_index_or, slice_set}
 use Rattle.std.proofs.lemmas.Bool.Decides.{nat_tests}
 use Rattle.venue_words.specs.declared.command.Command.{Command}
 use Rattle.venue_words.specs.declared.command.Command.TheVariants.{Quote, New, Cancel, Replace, Status as Request}
@@ -10,20 +10,19 @@ use Rattle.venue_words.specs.declared.price.Side.{Side}
 use Rattle.venue_words.specs.declared.price.Side.TheVariants.{Buy, Sell}
 use Rattle.venue_words.specs.declared.row.Priced.{Priced}
 use Rattle.venue_words.specs.Best.{best_of}
-use Rattle.venue_words.specs.Conditions.{fits_limits, longest_id}
+use Rattle.venue_words.specs.Conditions.{fits_limits}
 use Rattle.eager_meaning.specs.declared.order.Order.{Order}
 use Rattle.eager_meaning.specs.declared.order.Live.{Live}
 use Rattle.eager_meaning.specs.declared.trade.Fill.{Fill}
 use Rattle.eager_meaning.specs.Changing.{arrival_of_replace}
 use Rattle.eager_meaning.specs.Entering.{entered, arrival_of_new}
-use Rattle.eager_meaning.specs.State.{State, own_rows, other_rows, resting}
+use Rattle.eager_meaning.specs.State.{State, own_rows, other_rows}
 use Rattle.eager_meaning.specs.Step.{IsNumbered, runs}
-use Rattle.eager_meaning.specs.Terms.{row_of}
 use Rattle.market_laws.specs.Fitting.{TradeFits, FillsFit, QuoteTradesFit, NewTradesFit, ReplaceTradesFit, arrival_fills}
 use Rattle.market_laws.specs.Ids.{short_within_limits}
 use Rattle.market_laws.proofs.Naming.{quantity_above}
 use Rattle.match_core.specs.BothSides.{own_of, others_of}
-use Rattle.symbol_book.specs.Commands.{takes_command, has_market}
+use Rattle.symbol_book.specs.Commands.{takes_command}
 use Rattle.symbol_book.specs.Fitting.{CanWork, NewFits, ReplaceFits}
 use Rattle.symbol_book.specs.Orders.{HasLeft, HaveLeft}
 use Rattle.symbol_book.proofs.LiveRows.{at_within}

@@ -1,5 +1,5 @@
 -- A book after one more event.
-use Rattle.std.proofs.Common.{◌≡◌, ℕ, zero, suc, ◌+◌, ◌*◌, ◌<◌, ◌≤◌, List, [], ◌∷◌, ◌++◌, length, All, Some, None, refl, ap, sym, ◌∙◌, subst, append_assoc, arith, rules}
+use Rattle.std.proofs.Common.{◌≡◌, ℕ, zero, suc, ◌+◌, ◌*◌, ◌<◌, ◌≤◌, List, [], ◌∷◌, ◌++◌, length, All, Some, None, refl, ap, sym, ◌∙◌, subst, arith}
 use Rattle.std.specs.Prelude.{Option, fold, map, replicate, slice_get, min, max}
 use Rattle.std.proofs.lemmas.List.{length-append, length-replicate, append-nil}
 use Rattle.std.proofs.lemmas.List.Sums.{fold-append}
@@ -13,7 +13,7 @@ use Rattle.venue_words.specs.Conditions.{IsTick, most_events}
 use Rattle.eager_meaning.specs.declared.order.Order.{Order}
 use Rattle.eager_meaning.specs.declared.notice.Notice.{Notice}
 use Rattle.eager_meaning.specs.State.{State}
-use Rattle.eager_meaning.specs.Step.{IsNumbered, Run, runs, step, outcome_of, reports_from}
+use Rattle.eager_meaning.specs.Step.{IsNumbered, runs, step, reports_from}
 use Rattle.market_laws.specs.Reports.{ReportsAreFew}
 use Rattle.market_laws.specs.Sound.{IsSound, BookIsSound}
 use Rattle.market_laws.specs.Standing.{AreStanding, RowsStand, next_entries}

@@ -1,18 +1,15 @@
 -- The row of an order, by the rows with which orders entered.
-use Rattle.std.proofs.Common.{◌≡◌, ℕ, zero, suc, ◌<◌, ◌≤◌, Bool, true, false, cond, List, [], ◌∷◌, length, Option, Some, None, refl, ap, sym, ◌∙◌, subst, inl, inr, arith}
-use Rattle.std.specs.Prelude.{◌⊎◌, ◌==◌, nat_lt, slice_get, slice_index_or, find, option_map, option_and_then}
+use Rattle.std.proofs.Common.{◌≡◌, ℕ, zero, suc, ◌<◌, ◌≤◌, true, false, cond, List, [], ◌∷◌, length, Option, Some, None, refl, ap, sym, ◌∙◌, subst, inl, inr, arith}
+use Rattle.std.specs.Prelude.{◌⊎◌, ◌==◌, nat_lt, slice_get, slice_index_or, option_map}
 use Rattle.std.proofs.lemmas.Bool.Decides.{nat_tests}
 use Rattle.venue_words.specs.declared.row.Row.{Row}
 use Rattle.venue_words.specs.declared.row.Priced.{Priced}
 use Rattle.eager_meaning.specs.declared.order.Order.{Order}
-use Rattle.eager_meaning.specs.declared.order.Live.{Live}
-use Rattle.eager_meaning.specs.Orders.{order_named, with_row, live_named}
+use Rattle.eager_meaning.specs.Orders.{order_named, live_named}
 use Rattle.eager_meaning.specs.Showing.{row_of_order}
-use Rattle.match_core.specs.BothSides.{Rests}
 use Rattle.market_laws.specs.Standing.{row_by_now, row_left}
 use Rattle.symbol_book.specs.Finding.{IsNumber, IsLiveRow, IsFoundAs, IsFound}
 use Rattle.symbol_book.specs.Rows.{AreEntered}
-use Rattle.symbol_book.specs.declared.finding.Found.{Found}
 
 same_number : (a b : ℕ) → (a == b) ≡ true → a ≡ b
 same_number a b e = grind (arith, nat_tests)

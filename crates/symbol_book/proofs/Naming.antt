@@ -1,8 +1,7 @@
 -- The present id of each order has an entry with the order's number, also after one more event.
-use Rattle.std.proofs.Common.{◌≡◌, ℕ, zero, suc, ◌+◌, Bool, true, false, cond, not, ◌&&◌, List, [], ◌∷◌, ◌++◌, length, Option, Some, None, refl, ap, sym, ◌∙◌, subst, inl, inr, arith}
-use Rattle.std.specs.Prelude.{◌⊎◌, ◌==◌, ◌||◌, slice_get, slice_set, map, find, option_map}
+use Rattle.std.proofs.Common.{◌≡◌, ℕ, zero, suc, Bool, true, false, cond, ◌&&◌, List, [], ◌∷◌, ◌++◌, length, Option, Some, None, refl, ap, sym, ◌∙◌, subst, inl, inr, arith}
+use Rattle.std.specs.Prelude.{◌⊎◌, ◌==◌, ◌||◌, slice_get, option_map}
 use Rattle.std.specs.Option.{option_map_or}
-use Rattle.std.specs.List.{list_any}
 use Rattle.std.specs.Str.{bytes_eq}
 use Rattle.std.proofs.lemmas.Bool.{eq-eqb}
 use Rattle.std.proofs.lemmas.Bool.Decides.{nat_tests}
@@ -21,18 +20,17 @@ use Rattle.eager_meaning.specs.declared.order.Live.{Live}
 use Rattle.eager_meaning.specs.declared.trade.Fill.{Fill}
 use Rattle.eager_meaning.specs.Changing.{only_lowers, replaced_order, on_cancel, cancel, on_replace, resize, arrival_of_replace}
 use Rattle.eager_meaning.specs.Entering.{Arrival, accepted_order, arrival_of_new, enter, on_new}
-use Rattle.eager_meaning.specs.Orders.{changed_at, is_used, known_of, live_named}
+use Rattle.eager_meaning.specs.Orders.{changed_at, is_used, live_named}
 use Rattle.eager_meaning.specs.Quoting.{same_best, with_quote, requote, on_quote}
 use Rattle.eager_meaning.specs.State.{State, Outcome, resting, with_rows, with_no_notice}
 use Rattle.eager_meaning.specs.Step.{on_status, outcome_of}
 use Rattle.eager_meaning.specs.Trades.{order_after, orders_after, orders_after_all}
-use Rattle.eager_meaning.specs.Verdict.{verdict}
 use Rattle.market_laws.proofs.Living.{live_found}
 use Rattle.market_laws.proofs.Naming.{get_changed, get_other, live_member}
 use Rattle.market_laws.proofs.Siding.{changed_next}
 use Rattle.symbol_book.specs.Changes.{broken_by, with_id, ids_after}
 use Rattle.symbol_book.specs.Ids.{UsedId, NameOrders, used_of, entry_of}
-use Rattle.symbol_book.proofs.Rules.{new_fresh, cancel_fresh, replace_fresh}
+use Rattle.symbol_book.proofs.Rules.{new_fresh, replace_fresh}
 
 -- ---- entries
 
@@ -100,9 +98,11 @@ some_name x y e = cc
 
 named_as : (entries : List UsedId) (orders next : List Order) → ((j : ℕ) → name_at next j ≡ name_at orders j) → NameOrders entries orders → NameOrders entries next
 named_as entries orders next same named =
-    record { each = λ k order at.
-      let name : name_at orders k ≡ Some (name_of order) = sym (same k) ∙ ap (option_map name_of) at in
-      from k order (slice_get orders k) refl name }
+    record {
+      each = λ k order at.
+          let name : name_at orders k ≡ Some (name_of order) = sym (same k) ∙ ap (option_map name_of) at in
+          from k order (slice_get orders k) refl name;
+    }
   where
     from : (k : ℕ) (order : Order) (found : Option Order) → slice_get orders k ≡ found → option_map name_of found ≡ Some (name_of order) → option_map (λ (e : UsedId). e.order) (entry_of order.member order.id entries) ≡ Some k
     from k order None is e = cc
@@ -136,13 +136,15 @@ named_changed : (entries : List UsedId) (orders : List Order) (f : Order → Ord
     → NameOrders (with_id (f order).member (f order).id number entries) (changed_at f number orders)
 named_changed entries orders f number order at fresh named =
     let more = named_more entries (record { member = (f order).member; id = (f order).id; order = number }) orders named in
-    record { each = λ k x e.
-      elim (same_or_not number k) [
-        | inl same ↦
-            let here : f order ≡ x = some_order _ _ (sym (get_changed f number orders order at) ∙ (ap (slice_get (changed_at f number orders)) same ∙ e)) in
-            subst (λ (y : Order). option_map (λ (u : UsedId). u.order) (entry_of y.member y.id (with_id (f order).member (f order).id number entries)) ≡ Some k) here (found_last (f order).member (f order).id entries number fresh ∙ ap Some same)
-        | inr other ↦ more.each k x (sym (get_other f number k orders other) ∙ e)
-      ] }
+    record {
+      each = λ k x e.
+          elim (same_or_not number k) [
+            | inl same ↦
+                let here : f order ≡ x = some_order _ _ (sym (get_changed f number orders order at) ∙ (ap (slice_get (changed_at f number orders)) same ∙ e)) in
+                subst (λ (y : Order). option_map (λ (u : UsedId). u.order) (entry_of y.member y.id (with_id (f order).member (f order).id number entries)) ≡ Some k) here (found_last (f order).member (f order).id entries number fresh ∙ ap Some same)
+            | inr other ↦ more.each k x (sym (get_other f number k orders other) ∙ e)
+          ];
+    }
 
 -- ---- commands
 

@@ -1,5 +1,5 @@
 -- The order that an id names is the one of its entry, where the order has the id.
-use Rattle.std.proofs.Common.{◌≡◌, ℕ, ◌+◌, Bool, true, false, List, [], ◌∷◌, refl, ap, sym, ◌∙◌, subst, arith, rules}
+use Rattle.std.proofs.Common.{◌≡◌, ℕ, ◌+◌, Bool, true, false, List, [], ◌∷◌, refl, ap, sym, ◌∙◌, subst, arith}
 use Rattle.std.specs.Prelude.{Option, Some, None, find, slice_get, option_map, option_and_then, cond, suc, zero, unwrap_or}
 use Rattle.std.specs.List.{enumerate_from}
 use Rattle.std.specs.Prelude.{◌==◌, ◌&&◌}
@@ -8,7 +8,7 @@ use Rattle.std.proofs.lemmas.Bool.Decides.{nat_tests}
 use Rattle.std.proofs.lemmas.Slice.Eq.{bytes_eq-Decides}
 use Rattle.eager_meaning.specs.declared.order.Order.{Order}
 use Rattle.eager_meaning.specs.Orders.{is_named, order_named}
-use Rattle.symbol_book.specs.Finding.{IsNumberOf, IsNumber}
+use Rattle.symbol_book.specs.Finding.{IsNumber}
 use Rattle.symbol_book.specs.Ids.{UsedId, NameOrders, entry_of, if_named, named_at}
 
 -- the order of an entry, where the id names it at present

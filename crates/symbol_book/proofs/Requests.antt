@@ -1,5 +1,5 @@
 -- A Cancel, a Replace and a status request, by the order and the rule that were found.
-use Rattle.std.proofs.Common.{◌≡◌, ℕ, Bool, true, false, List, [], ◌∷◌, ◌++◌, Option, Some, None, refl, ap, sym, ◌∙◌, subst}
+use Rattle.std.proofs.Common.{◌≡◌, ℕ, Bool, true, false, List, [], ◌∷◌, Option, Some, None, refl, ap, sym, ◌∙◌, subst}
 use Rattle.std.specs.Prelude.{slice_set}
 use Rattle.venue_words.specs.declared.command.Command.{Command}
 use Rattle.venue_words.specs.declared.command.Command.TheVariants.{Cancel, Replace, Status}
@@ -8,13 +8,12 @@ use Rattle.venue_words.specs.declared.command.Rule.{Rule}
 use Rattle.venue_words.specs.declared.command.Terms.{Terms}
 use Rattle.venue_words.specs.declared.report.Report.{Report}
 use Rattle.venue_words.specs.declared.row.Row.{Row}
-use Rattle.eager_meaning.specs.declared.notice.Notice.{Notice}
 use Rattle.eager_meaning.specs.declared.order.Live.{Live}
 use Rattle.eager_meaning.specs.Changing.{refusal, cancel, on_cancel, only_lowers, resize, arrival_of_replace, replace, on_replace}
 use Rattle.eager_meaning.specs.Entering.{enter}
 use Rattle.eager_meaning.specs.Orders.{is_used, known_of, live_named}
 use Rattle.eager_meaning.specs.State.{State, Outcome, resting, with_notice, with_no_notice}
-use Rattle.eager_meaning.specs.Step.{outcome_of, on_status, reports_from}
+use Rattle.eager_meaning.specs.Step.{outcome_of, on_status}
 use Rattle.eager_meaning.specs.Verdict.{verdict}
 use Rattle.eager_meaning.specs.Work.{examined}
 use Rattle.symbol_book.specs.declared.room.Room.{Room}

@@ -1,5 +1,5 @@
 -- Buffers that are ready for an id.
-use Rattle.std.specs.Prelude.{◌≡◌, ℕ, ◌≤◌, [], List}
+use Rattle.std.specs.Prelude.{◌≡◌, ℕ, ◌≤◌, []}
 use Rattle.std.specs.Global.{Vec}
 use Rattle.std.specs.Vec.{vec_capacity, vec_len}
 use Rattle.venue_words.specs.Conditions.{longest_id}

@@ -1,5 +1,5 @@
 -- What a book needs of its orders, so that sums fit and ids have room.
-use Rattle.std.specs.Prelude.{◌≡◌, ℕ, ◌+◌, ◌*◌, ◌^◌, ◌<◌, ◌≤◌, List, [], ◌∷◌, length, slice_index_or}
+use Rattle.std.specs.Prelude.{ℕ, ◌+◌, ◌*◌, ◌^◌, ◌<◌, ◌≤◌, List, [], ◌∷◌, length, slice_index_or}
 use Rattle.venue_words.specs.Conditions.{longest_id}
 use Rattle.eager_meaning.specs.declared.order.Order.{Order}
 use Rattle.eager_meaning.specs.declared.trade.Fill.{Fill}

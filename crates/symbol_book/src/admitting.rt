@@ -27,7 +27,9 @@ use crate::ids::{ClOrdId, UsedIds};
 use crate::log::ReportLog;
 use crate::room::Room;
 use crate::showing::view_with_row;
-use eager_meaning::{Known, Order, is_immediate, is_pegged, limit_of, quantity_of, side_of, verdict};
+use eager_meaning::{
+    Known, Order, is_immediate, is_pegged, limit_of, quantity_of, side_of, verdict,
+};
 use match_core::Engine;
 use std::sync::ledger::Ledger;
 use venue_words::{Bytes, Event, Kind, Row, Rule, Side, Steps, Terms};
@@ -80,7 +82,8 @@ fn accept<E: Engine, L: Ledger>(
     requires ready { E.ready engine.old (Some (key_of tick terms.now)) }
     requires later { E.latest engine.old < event.now.number }
     requires shares { 0 < quantity_of terms.now }
-    requires fits { NewFits tick event.now.number member id.now terms.now (E.best engine.old) (E.buys engine.old) (E.sells engine.old) orders.old.items }
+    requires fits { NewFits tick event.now.number member id.now terms.now (E.best engine.old) (E.buys engine.old)
+        (E.sells engine.old) orders.old.items }
     requires small { All IsSmall orders.old.items }
     requires short { length id.now ≤ longest_id }
     requires fresh { is_used member id.now (used_of ids.old.entries) ≡ false }
@@ -91,12 +94,22 @@ fn accept<E: Engine, L: Ledger>(
     requires few { length (E.buys engine.old) + length (E.sells engine.old) < 2 ^ 30 }
     requires places { 2 * (length (E.buys engine.old) + length (E.sells engine.old)) + 4 ≤ log.old.places }
     requires buffers { 2 * (length (E.buys engine.old) + length (E.sells engine.old)) + 3 ≤ log.old.buffers }
-    ensures state { (markets : List Best) → best_of markets ≡ E.best engine.old → (enter (arrival_of_new tick event.now.number member id.now terms.now (state_of markets (E.buys engine.old) (E.sells engine.old) orders.old.items (used_of ids.old.entries)))).state ≡ state_of markets (E.buys engine.new) (E.sells engine.new) orders.new.items (used_of ids.new.entries) }
-    ensures reports { (markets : List Best) → best_of markets ≡ E.best engine.old → Reports event.now log.old.list 1 (enter (arrival_of_new tick event.now.number member id.now terms.now (state_of markets (E.buys engine.old) (E.sells engine.old) orders.old.items (used_of ids.old.entries)))).notices log.new.list result }
-    ensures entered { entered.new.items ≡ entered.old.items ++ if_it_rests (is_immediate terms.now) (row_of tick event.now.number (length orders.old.items) member 0 terms.now) ∷ [] }
+    ensures state { (markets : List Best) → best_of markets ≡ E.best engine.old
+        → (enter (arrival_of_new tick event.now.number member id.now terms.now (state_of markets (E.buys engine.old)
+        (E.sells engine.old) orders.old.items (used_of ids.old.entries)))).state
+        ≡ state_of markets (E.buys engine.new) (E.sells engine.new) orders.new.items (used_of ids.new.entries) }
+    ensures reports { (markets : List Best) → best_of markets ≡ E.best engine.old
+        → Reports event.now log.old.list 1 (enter (arrival_of_new tick event.now.number member id.now terms.now
+        (state_of markets (E.buys engine.old) (E.sells engine.old) orders.old.items
+        (used_of ids.old.entries)))).notices log.new.list result }
+    ensures entered { entered.new.items ≡ entered.old.items ++ if_it_rests (is_immediate terms.now)
+        (row_of tick event.now.number (length orders.old.items) member 0 terms.now) ∷ [] }
     ensures ids { ids.new.entries ≡ with_id member id.now (length orders.old.items) ids.old.entries }
     ensures small { All IsSmall orders.new.items }
-    ensures most { (markets : List Best) → best_of markets ≡ E.best engine.old → steps.new ≤ steps.old + 2048 * (E.width engine.old + 1) * (examined_by_arrival (arrival_of_new tick event.now.number member id.now terms.now (state_of markets (E.buys engine.old) (E.sells engine.old) orders.old.items (used_of ids.old.entries))) + 1) }
+    ensures most { (markets : List Best) → best_of markets ≡ E.best engine.old → steps.new
+        ≤ steps.old + 2048 * (E.width engine.old + 1) * (examined_by_arrival
+        (arrival_of_new tick event.now.number member id.now terms.now (state_of markets (E.buys engine.old)
+        (E.sells engine.old) orders.old.items (used_of ids.old.entries))) + 1) }
     ensures best { E.best engine.new ≡ E.best engine.old }
     ensures latest { E.latest engine.new ≡ event.now.number }
 {
@@ -142,7 +155,8 @@ fn rule_of_new(
     requires command { event.now.command ≡ New member id.now terms.now }
     requires member { own.now.member ≡ member }
     requires id { own.now.id.items ≡ id.now }
-    ensures rule { result ≡ verdict (New member id.now terms.now) (known_of tick (is_used member id.now (used_of ids.now.entries)) None) }
+    ensures rule { result ≡ verdict (New member id.now terms.now) (known_of tick
+        (is_used member id.now (used_of ids.now.entries)) None) }
     ensures fresh { result ≡ None → is_used member id.now (used_of ids.now.entries) ≡ false }
     ensures shares { result ≡ None → 0 < quantity_of terms.now }
 {
@@ -157,9 +171,18 @@ fn rule_of_new(
 }
 
 /// A New is rejected.
-fn reject(log: &mut ReportLog, event: &Event, member: u32, id: Bytes, terms: &Terms, rule: Rule) -> u32
+fn reject(
+    log: &mut ReportLog,
+    event: &Event,
+    member: u32,
+    id: Bytes,
+    terms: &Terms,
+    rule: Rule,
+) -> u32
     requires places { 0 < log.old.places }
-    ensures reports { Reports event.now log.old.list 1 (record { member = member; kind = Rejected id terms.now.side terms.now.quantity rule } ∷ []) log.new.list result }
+    ensures reports { Reports event.now log.old.list 1
+        (record { member = member; kind = Rejected id terms.now.side terms.now.quantity rule } ∷ []) log.new.list
+        result }
 {
     let kind = Kind::Rejected {
         id,
@@ -191,7 +214,10 @@ pub fn on_new<E: Engine, L: Ledger>(
     requires copies { CopiesOwn member id.now room }
     requires ready { E.ready engine.old (Some (key_of tick terms.now)) }
     requires later { E.latest engine.old < event.now.number }
-    requires fits { verdict (New member id.now terms.now) (known_of tick (is_used member id.now (used_of ids.old.entries)) None) ≡ None → NewFits tick event.now.number member id.now terms.now (E.best engine.old) (E.buys engine.old) (E.sells engine.old) orders.old.items }
+    requires fits { verdict (New member id.now terms.now) (known_of tick
+        (is_used member id.now (used_of ids.old.entries)) None) ≡ None
+        → NewFits tick event.now.number member id.now terms.now (E.best engine.old) (E.buys engine.old)
+        (E.sells engine.old) orders.old.items }
     requires small { All IsSmall orders.old.items }
     requires short { length id.now ≤ longest_id }
     requires order_room { vec_len orders.old < vec_capacity orders.old }
@@ -201,12 +227,25 @@ pub fn on_new<E: Engine, L: Ledger>(
     requires few { length (E.buys engine.old) + length (E.sells engine.old) < 2 ^ 30 }
     requires places { 2 * (length (E.buys engine.old) + length (E.sells engine.old)) + 4 ≤ log.old.places }
     requires buffers { 2 * (length (E.buys engine.old) + length (E.sells engine.old)) + 3 ≤ log.old.buffers }
-    ensures state { (markets : List Best) → best_of markets ≡ E.best engine.old → (outcome_of tick event.now.number event.now.command (state_of markets (E.buys engine.old) (E.sells engine.old) orders.old.items (used_of ids.old.entries))).state ≡ state_of markets (E.buys engine.new) (E.sells engine.new) orders.new.items (used_of ids.new.entries) }
-    ensures reports { (markets : List Best) → best_of markets ≡ E.best engine.old → Reports event.now log.old.list 1 (outcome_of tick event.now.number event.now.command (state_of markets (E.buys engine.old) (E.sells engine.old) orders.old.items (used_of ids.old.entries))).notices log.new.list result }
-    ensures entered { (markets : List Best) → entered.new.items ≡ entries_after tick (state_of markets (E.buys engine.old) (E.sells engine.old) orders.old.items (used_of ids.old.entries)) event.now.number event.now.command entered.old.items }
-    ensures ids { (markets : List Best) → ids.new.entries ≡ ids_after tick event.now.command (state_of markets (E.buys engine.old) (E.sells engine.old) orders.old.items (used_of ids.old.entries)) ids.old.entries }
+    ensures state { (markets : List Best) → best_of markets ≡ E.best engine.old
+        → (outcome_of tick event.now.number event.now.command (state_of markets (E.buys engine.old)
+        (E.sells engine.old) orders.old.items (used_of ids.old.entries))).state
+        ≡ state_of markets (E.buys engine.new) (E.sells engine.new) orders.new.items (used_of ids.new.entries) }
+    ensures reports { (markets : List Best) → best_of markets ≡ E.best engine.old
+        → Reports event.now log.old.list 1 (outcome_of tick event.now.number event.now.command (state_of markets
+        (E.buys engine.old) (E.sells engine.old) orders.old.items (used_of ids.old.entries))).notices log.new.list
+        result }
+    ensures entered { (markets : List Best) → entered.new.items
+        ≡ entries_after tick (state_of markets (E.buys engine.old) (E.sells engine.old) orders.old.items
+        (used_of ids.old.entries)) event.now.number event.now.command entered.old.items }
+    ensures ids { (markets : List Best) → ids.new.entries
+        ≡ ids_after tick event.now.command (state_of markets (E.buys engine.old) (E.sells engine.old) orders.old.items
+        (used_of ids.old.entries)) ids.old.entries }
     ensures small { All IsSmall orders.new.items }
-    ensures most { (markets : List Best) → best_of markets ≡ E.best engine.old → steps.new ≤ steps.old + 2048 * (E.width engine.old + 1) * (examined tick (state_of markets (E.buys engine.old) (E.sells engine.old) orders.old.items (used_of ids.old.entries)) event.now.number event.now.command + 1) }
+    ensures most { (markets : List Best) → best_of markets ≡ E.best engine.old → steps.new
+        ≤ steps.old + 2048 * (E.width engine.old + 1) * (examined tick
+        (state_of markets (E.buys engine.old) (E.sells engine.old) orders.old.items
+        (used_of ids.old.entries)) event.now.number event.now.command + 1) }
     ensures best { E.best engine.new ≡ E.best engine.old }
     ensures latest { E.latest engine.new ≤ event.now.number }
 {

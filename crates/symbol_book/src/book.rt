@@ -4,12 +4,14 @@ use crate::ids::UsedIds;
 use crate::log::ReportLog;
 use crate::preparing::{key_for, make_room, room_for};
 use crate::room::Room;
+use crate::taking::takes_command;
 use crate::working::work;
 use best_prices::Markets;
 use eager_meaning::Order;
 use market_laws::{
-    book_is_sound, bought_shares_are_sold, cum_is_sum_of_trades, new_is_answered_once, new_trades_fit,
-    quote_trades_fit, replace_trades_fit, reports_are_few, rows_stand, trades_are_within_quote,
+    book_is_sound, bought_shares_are_sold, cum_is_sum_of_trades, new_is_answered_once,
+    new_trades_fit, quote_trades_fit, replace_trades_fit, reports_are_few, rows_stand,
+    trades_are_within_quote,
 };
 use match_core::Engine;
 use std::alloc::Global;
@@ -45,14 +47,20 @@ impl<E: Engine + Drop> Model for BookOver<E> {
 
     ghost Value = { BookView };
 
-    ghost view = { λ b. record { markets = length b.markets; tick = b.tick; limit = b.limit;
-        journal = b.journal.items; reports = b.log.list; ready = b.ready } };
+    ghost view = { λ b. record {
+      markets = length b.markets;
+      tick = b.tick;
+      limit = b.limit;
+      journal = b.journal.items;
+      reports = b.log.list;
+      ready = b.ready;
+    } };
 
     ghost invariant = { λ b. IsKept b.tick b.limit b.markets (E.buys b.engine) (E.sells b.engine) (E.best b.engine)
         (E.latest b.engine) b.orders.items b.entered.items b.ids b.log b.journal.items
         × ((key : Option Key) → b.ready ≡ Some key → E.ready b.engine key
         × HasPlaces (length (E.buys b.engine) + length (E.sells b.engine)) (vec_capacity b.orders - vec_len b.orders)
-            (vec_capacity b.entered - vec_len b.entered) b.ids.room (vec_capacity b.journal - vec_len b.journal) b.log
+        (vec_capacity b.entered - vec_len b.entered) b.ids.room (vec_capacity b.journal - vec_len b.journal) b.log
         × IsNarrow key (E.width b.engine) (key_count (E.buys b.engine ++ E.sells b.engine))) };
 }
 
@@ -72,8 +80,9 @@ impl<E: Engine + Drop> BookOver<E> {
     ghost use Rattle.symbol_book.specs.Room.{IsRoomFor};
     ghost use Rattle.symbol_book.specs.Setting.{setting_of, markets_in, tick_in};
 
-    /// A book without events, over an engine without rows.
-    pub(crate) fn over(
+    /// A book without events, over an engine without rows: so many markets, a limit of events, and a tick of 2 or 10 units of
+    /// 0.005.
+    pub fn over(
         alloc: Global,
         engine: E,
         seed: HashSeed,
@@ -114,7 +123,8 @@ impl<E: Engine + Drop> BookOver<E> {
         // Shares are neither made nor lost, each order's CumQty is the sum of its trades, and its quantity is CumQty plus
         // leaves while it is live.
         ensures shares { shares_traded Buy result.now ≡ shares_traded Sell result.now }
-        ensures sums { (k : ℕ) (order : Order) → slice_get (runs self.now.markets self.now.tick self.now.journal).state.orders k ≡ Some order
+        ensures sums { (k : ℕ) (order : Order) → slice_get
+            (runs self.now.markets self.now.tick self.now.journal).state.orders k ≡ Some order
             → order.cum ≡ shares_told_of order.first result.now }
         ensures sound { IsSound (length self.now.journal) (runs self.now.markets self.now.tick self.now.journal).state }
 
@@ -154,6 +164,14 @@ impl<E: Engine + Drop> BookOver<E> {
         self.engine.groups() as u32
     }
 
+    /// Whether it takes a command: prices of quotes are from 0.01 to 19,999.99, ids have at most 64 bytes, and a quote is of a
+    /// market that is there.
+    pub fn takes(&self, command: &Command) -> bool
+        ensures { result ≡ takes_command self.now.markets command.now }
+    {
+        takes_command(self.markets.len(), command)
+    }
+
     /// How many reports there are.
     pub(crate) fn front(&self) -> u32
         ensures { result ≡ length self.now.reports }
@@ -186,7 +204,8 @@ impl<E: Engine + Drop> BookOver<E> {
     /// is missing is added. `Full` comes where the journal holds its limit. A refusal leaves the journal and the reports.
     pub fn prepare(&mut self, command: &Command) -> Result<Room, FloorRefusal>
         requires takes { takes_command self.old.markets command.now ≡ true }
-        ensures same { (self.new.markets ≡ self.old.markets) × (self.new.tick ≡ self.old.tick) × (self.new.limit ≡ self.old.limit) }
+        ensures same { (self.new.markets ≡ self.old.markets) × (self.new.tick ≡ self.old.tick) × (self.new.limit
+            ≡ self.old.limit) }
         ensures journal { self.new.journal ≡ self.old.journal }
         ensures reports { self.new.reports ≡ self.old.reports }
         ensures ready { OnOk result (self.new.ready ≡ Some (key_for self.old.tick command.now)) }
@@ -229,7 +248,8 @@ impl<E: Engine + Drop> BookOver<E> {
         requires below { length self.old.journal < self.old.limit }
         requires ready { self.old.ready ≡ Some (key_for self.old.tick event.command) }
         requires room { IsRoomFor event.command room }
-        ensures same { (self.new.markets ≡ self.old.markets) × (self.new.tick ≡ self.old.tick) × (self.new.limit ≡ self.old.limit) }
+        ensures same { (self.new.markets ≡ self.old.markets) × (self.new.tick ≡ self.old.tick) × (self.new.limit
+            ≡ self.old.limit) }
         ensures journal { self.new.journal ≡ self.old.journal ++ event ∷ [] }
         ensures most { steps.new ≤ steps.old + bound self.old.tick
             (runs self.old.markets self.old.tick self.old.journal).state event.number event.command }

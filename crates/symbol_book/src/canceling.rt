@@ -48,8 +48,15 @@ fn cancel<E: Engine, L: Ledger>(
     requires same { room.shown ≡ room.own.id.items }
     requires id_room { 0 < ids.old.room }
     requires places { 0 < log.old.places }
-    ensures state { (markets : List Best) (live : Live) → IsFoundAs orders.now (E.buys engine.old ++ E.sells engine.old) live found → (cancel member room.shown room.orig.id.items live (state_of markets (E.buys engine.old) (E.sells engine.old) orders.now (used_of ids.old.entries))).state ≡ state_of markets (E.buys engine.new) (E.sells engine.new) orders.now (used_of ids.new.entries) }
-    ensures reports { (markets : List Best) (live : Live) → IsFoundAs orders.now (E.buys engine.old ++ E.sells engine.old) live found → Reports event.now log.old.list 1 (cancel member room.shown room.orig.id.items live (state_of markets (E.buys engine.old) (E.sells engine.old) orders.now (used_of ids.old.entries))).notices log.new.list result }
+    ensures state { (markets : List Best) (live : Live)
+        → IsFoundAs orders.now (E.buys engine.old ++ E.sells engine.old) live found
+        → (cancel member room.shown room.orig.id.items live (state_of markets (E.buys engine.old)
+        (E.sells engine.old) orders.now (used_of ids.old.entries))).state
+        ≡ state_of markets (E.buys engine.new) (E.sells engine.new) orders.now (used_of ids.new.entries) }
+    ensures reports { (markets : List Best) (live : Live)
+        → IsFoundAs orders.now (E.buys engine.old ++ E.sells engine.old) live found
+        → Reports event.now log.old.list 1 (cancel member room.shown room.orig.id.items live (state_of markets
+        (E.buys engine.old) (E.sells engine.old) orders.now (used_of ids.old.entries))).notices log.new.list result }
     ensures entered { entered.new.items ≡ slice_set entered.old.items found.number None }
     ensures ids { ids.new.entries ≡ with_id member room.shown found.number ids.old.entries }
     ensures most { steps.new ≤ steps.old + 512 }
@@ -100,7 +107,10 @@ pub fn on_cancel<E: Engine, L: Ledger>(
     requires kept { KeepsOrders entered.old.items orders.now (E.buys engine.old ++ E.sells engine.old) ids.old.entries }
     requires id_room { 0 < ids.old.room }
     requires places { 0 < log.old.places }
-    ensures worked { (markets : List Best) → IsWorked tick event.now (state_of markets (E.buys engine.old) (E.sells engine.old) orders.now (used_of ids.old.entries)) entered.old.items ids.old.entries log.old.list (state_of markets (E.buys engine.new) (E.sells engine.new) orders.now (used_of ids.new.entries)) entered.new.items ids.new.entries log.new.list result }
+    ensures worked { (markets : List Best) → IsWorked tick event.now (state_of markets (E.buys engine.old)
+        (E.sells engine.old) orders.now (used_of ids.old.entries)) entered.old.items ids.old.entries log.old.list
+        (state_of markets (E.buys engine.new) (E.sells engine.new) orders.now
+        (used_of ids.new.entries)) entered.new.items ids.new.entries log.new.list result }
     ensures most { steps.new ≤ steps.old + 512 }
     ensures best { E.best engine.new ≡ E.best engine.old }
     ensures latest { E.latest engine.new ≡ E.latest engine.old }
@@ -108,8 +118,23 @@ pub fn on_cancel<E: Engine, L: Ledger>(
     let live = find_live(ids, orders, entered, &room.orig);
     match rule_of_request(tick, ids, &room.own, live, orders, event) {
         Some(rule) => {
-            let Room { own: _, order: _, shown, orig } = room;
-            refuse(log, event, member, b'1', shown, Bytes(orig.id), live, orders, rule)
+            let Room {
+                own: _,
+                order: _,
+                shown,
+                orig,
+            } = room;
+            refuse(
+                log,
+                event,
+                member,
+                b'1',
+                shown,
+                Bytes(orig.id),
+                live,
+                orders,
+                rule,
+            )
         }
         None => match live {
             Some(found) => cancel(

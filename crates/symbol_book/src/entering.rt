@@ -45,7 +45,13 @@ pub fn price_now<E: Engine>(engine: &E, row: &Row) -> Option<u32>
 }
 
 /// What is left of an order that stays only to trade at once is canceled.
-fn report_leftover(log: &mut ReportLog, event: &Event, place: u32, number: u32, orders: &[Order]) -> u32
+fn report_leftover(
+    log: &mut ReportLog,
+    event: &Event,
+    place: u32,
+    number: u32,
+    orders: &[Order],
+) -> u32
     requires here { number < length orders.now }
     requires small { All IsSmall orders.now }
     requires place { place + 1 < 2 ^ 32 }
@@ -83,15 +89,36 @@ pub fn enter<E: Engine, L: Ledger>(
     requires later { E.latest engine.old < row.entry }
     requires shares { 0 < row.leaves }
     requires here { row.order < length orders.old.items }
-    requires left { HaveLeft (entered_rows (E.best engine.old) row immediate (E.buys engine.old) (E.sells engine.old)).fills orders.old.items }
+    requires left { HaveLeft (entered_rows (E.best engine.old) row immediate (E.buys engine.old)
+        (E.sells engine.old)).fills orders.old.items }
     requires small { All IsSmall orders.old.items }
     requires few { length (E.buys engine.old) + length (E.sells engine.old) < 2 ^ 30 }
     requires places { 2 * (length (E.buys engine.old) + length (E.sells engine.old)) + 4 ≤ log.old.places }
     requires buffers { 2 * (length (E.buys engine.old) + length (E.sells engine.old)) + 3 ≤ log.old.buffers }
-    ensures state { (markets : List Best) (used : List (ℕ × List ℕ)) → (enter (record { taker = priced_at (E.best engine.old) row; immediate = immediate; state = state_of markets (E.buys engine.old) (E.sells engine.old) orders.old.items used; notice = record { member = member; kind = kind } })).state ≡ state_of markets (E.buys engine.new) (E.sells engine.new) orders.new.items used }
-    ensures reports { (markets : List Best) (used : List (ℕ × List ℕ)) → Reports event.now log.old.list 1 (enter (record { taker = priced_at (E.best engine.old) row; immediate = immediate; state = state_of markets (E.buys engine.old) (E.sells engine.old) orders.old.items used; notice = record { member = member; kind = kind } })).notices log.new.list result }
+    ensures state { (markets : List Best) (used : List (ℕ × List ℕ))
+        → (enter (record {
+          taker = priced_at (E.best engine.old) row;
+          immediate = immediate;
+          state = state_of markets
+              (E.buys engine.old) (E.sells engine.old) orders.old.items used;
+          notice = record {
+            member = member;
+            kind = kind;
+          };
+        })).state ≡ state_of markets (E.buys engine.new) (E.sells engine.new) orders.new.items used }
+    ensures reports { (markets : List Best) (used : List (ℕ × List ℕ))
+        → Reports event.now log.old.list 1 (enter (record {
+          taker = priced_at
+              (E.best engine.old) row;
+          immediate = immediate;
+          state = state_of markets (E.buys engine.old)
+              (E.sells engine.old) orders.old.items used;
+          notice = record { member = member; kind = kind };
+        })).notices
+        log.new.list result }
     ensures small { All IsSmall orders.new.items }
-    ensures most { steps.new ≤ steps.old + 2048 * (E.width engine.old + 1) * (examined_by (priced_at (E.best engine.old) row) (others_of row.key.side (E.buys engine.old) (E.sells engine.old)) + 1) }
+    ensures most { steps.new ≤ steps.old + 2048 * (E.width engine.old + 1) * (examined_by
+        (priced_at (E.best engine.old) row) (others_of row.key.side (E.buys engine.old) (E.sells engine.old)) + 1) }
     ensures best { E.best engine.new ≡ E.best engine.old }
     ensures latest { E.latest engine.new ≡ row.entry }
 {

@@ -44,7 +44,8 @@ fn number_here(orders: &[Order], id: &ClOrdId, number: u32) -> Option<u32>
 /// The number of the member's order that has this id at present, live or not.
 pub fn number_of(ids: &UsedIds, orders: &[Order], id: &ClOrdId) -> Option<u32>
     requires { NameOrders ids.now.entries orders.now }
-    ensures number { IsNumber id.now.member id.now.id.items orders.now (order_named id.now.member id.now.id.items orders.now) result }
+    ensures number { IsNumber id.now.member id.now.id.items orders.now
+        (order_named id.now.member id.now.id.items orders.now) result }
     ensures here { IfSome result (λ number. number < length orders.now) }
 {
     match ids.order(id) {

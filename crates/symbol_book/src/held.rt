@@ -19,13 +19,16 @@ fn submit<E: Engine + Drop, L: Ledger>(
     steps: &mut Steps<L>,
 ) -> Result<u32, FloorRefusal>
     requires takes { takes_command (markets_in (setting_of book.old.markets book.old.tick)) command ≡ true }
-    ensures same { (book.new.markets ≡ book.old.markets) × (book.new.tick ≡ book.old.tick) × (book.new.limit ≡ book.old.limit) }
+    ensures same { (book.new.markets ≡ book.old.markets) × (book.new.tick ≡ book.old.tick) × (book.new.limit
+        ≡ book.old.limit) }
     ensures number { IfOk result (λ number. number ≡ length book.old.journal + 1) }
-    ensures journal { IfOk result (λ number. book.new.journal ≡ book.old.journal ++ event number feed moment command ∷ []) }
+    ensures journal { IfOk result (λ number. book.new.journal
+        ≡ book.old.journal ++ event number feed moment command ∷ []) }
     ensures room { IfOk result (λ number. number ≤ book.old.limit) }
     ensures err { OnErr result (book.new.journal ≡ book.old.journal) }
     ensures full { IfErr result (IfFull (λ found. (found ≡ length book.old.journal) × (found ≡ book.old.limit))) }
-    ensures most { IfOk result (λ number. steps.new ≤ steps.old + steps_at (setting_of book.old.markets book.old.tick) book.old.journal (event number feed moment command)) }
+    ensures most { IfOk result (λ number. steps.new ≤ steps.old + steps_at
+        (setting_of book.old.markets book.old.tick) book.old.journal (event number feed moment command)) }
     ensures idle { OnErr result (steps.new ≡ steps.old) }
 {
     book.parts_of_setting();
@@ -47,8 +50,10 @@ fn submit<E: Engine + Drop, L: Ledger>(
 
 /// A member's reports from a position on, and how many reports there are.
 fn look<E: Engine + Drop>(book: &BookOver<E>, member: u32, from: u32) -> Result<Look, NoMemory>
-    ensures reports { IfOk result (λ look. look.reports ≡ reports_of member from (reports_at (setting_of book.now.markets book.now.tick) book.now.journal)) }
-    ensures front { IfOk result (λ look. look.front ≡ length (reports_at (setting_of book.now.markets book.now.tick) book.now.journal)) }
+    ensures reports { IfOk result (λ look. look.reports
+        ≡ reports_of member from (reports_at (setting_of book.now.markets book.now.tick) book.now.journal)) }
+    ensures front { IfOk result (λ look. look.front ≡ length (reports_at
+        (setting_of book.now.markets book.now.tick) book.now.journal)) }
 {
     book.parts_of_setting();
     let reports = book.reports();

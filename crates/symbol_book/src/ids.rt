@@ -27,8 +27,9 @@ impl Model for UsedIds {
     ghost Value = { IdList };
 
     ghost view = { λ n. record {
-        entries = map (λ e. record { member = e.0.member; id = e.0.id.items; order = e.1 }) n.index.entries;
-        room = spare n.index } };
+      entries = map (λ e. record { member = e.0.member; id = e.0.id.items; order = e.1 }) n.index.entries;
+      room = spare n.index;
+    } };
 }
 
 impl UsedIds {
@@ -71,7 +72,12 @@ impl UsedIds {
     pub fn push(&mut self, id: ClOrdId, order: u32)
         requires fresh { is_used id.member id.id.items (used_of self.old.entries) ≡ false }
         requires room { 0 < self.old.room }
-        ensures entries { self.new.entries ≡ self.old.entries ++ record { member = id.member; id = id.id.items; order = order } ∷ [] }
+        ensures entries { self.new.entries ≡ self.old.entries ++ record {
+          member = id.member;
+          id = id.id.items;
+          order
+              = order;
+        } ∷ [] }
         ensures used { used_of self.new.entries ≡ used_of self.old.entries ++ (id.member, id.id.items) ∷ [] }
     {
         match self.index.insert(id, order) {

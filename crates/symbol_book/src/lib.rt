@@ -20,6 +20,7 @@ mod replacing;
 pub mod room;
 mod showing;
 mod status;
+mod taking;
 mod trading;
 mod working;
 

@@ -76,7 +76,8 @@ impl ReportLog {
     pub fn push(&mut self, event: &Event, place: u32, member: u32, kind: Kind) -> u32
         requires place { place + 1 < 2 ^ 32 }
         requires some { 0 < self.old.places }
-        ensures reports { Reports event.now self.old.list place (record { member = member; kind = kind } ∷ []) self.new.list result }
+        ensures reports { Reports event.now self.old.list place
+            (record { member = member; kind = kind } ∷ []) self.new.list result }
         ensures next { result ≡ place + 1 }
         ensures places { self.new.places + 1 ≡ self.old.places }
         ensures buffers { self.new.buffers ≡ self.old.buffers }

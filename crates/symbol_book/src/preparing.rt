@@ -41,7 +41,10 @@ pub fn room_for(alloc: Global, command: &Command) -> Result<Room, AllocError>
         Command::New { member, id, .. } => copies(alloc, *member, id.as_slice(), &[]),
         Command::Cancel { member, id, orig }
         | Command::Replace {
-            member, id, orig, ..
+            member,
+            id,
+            orig,
+            ..
         } => copies(alloc, *member, id.as_slice(), orig.as_slice()),
         Command::Status { member, id, .. } => copies(alloc, *member, &[], id.as_slice()),
     }
@@ -83,8 +86,11 @@ pub fn make_room<E: Engine>(
     ensures best { E.best engine.new ≡ E.best engine.old }
     ensures latest { E.latest engine.new ≡ E.latest engine.old }
     ensures ready { OnOk result (E.ready engine.new key) }
-    ensures narrow { OnOk result (IsNarrow key (E.width engine.new) (key_count (E.buys engine.new ++ E.sells engine.new))) }
-    ensures room { OnOk result (HasPlaces rows (vec_capacity orders.new - vec_len orders.new) (vec_capacity entered.new - vec_len entered.new) ids.new.room (vec_capacity journal.new - vec_len journal.new) log.new) }
+    ensures narrow { OnOk result (IsNarrow key (E.width engine.new) (key_count
+        (E.buys engine.new ++ E.sells engine.new))) }
+    ensures room { OnOk result (HasPlaces rows (vec_capacity orders.new - vec_len orders.new)
+        (vec_capacity entered.new - vec_len entered.new) ids.new.room
+        (vec_capacity journal.new - vec_len journal.new) log.new) }
 {
     orders.reserve(1)?;
     entered.reserve(1)?;

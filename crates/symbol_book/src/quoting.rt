@@ -29,15 +29,23 @@ fn requote<E: Engine, L: Ledger>(
 ) -> u32
     requires ready { E.ready engine.old None }
     requires later { E.latest engine.old < event.now.number }
-    requires left { HaveLeft (requoted_rows event.now.number best (E.buys engine.old) (E.sells engine.old)).fills orders.old.items }
+    requires left { HaveLeft (requoted_rows event.now.number best (E.buys engine.old)
+        (E.sells engine.old)).fills orders.old.items }
     requires small { All IsSmall orders.old.items }
     requires few { length (E.buys engine.old) + length (E.sells engine.old) < 2 ^ 30 }
     requires places { 2 * (length (E.buys engine.old) + length (E.sells engine.old)) ≤ log.old.places }
     requires buffers { 2 * (length (E.buys engine.old) + length (E.sells engine.old)) ≤ log.old.buffers }
-    ensures state { (markets : List Best) (used : List (ℕ × List ℕ)) → best_of markets ≡ best → (requote event.now.number (state_of markets (E.buys engine.old) (E.sells engine.old) orders.old.items used)).state ≡ state_of markets (E.buys engine.new) (E.sells engine.new) orders.new.items used }
-    ensures reports { (markets : List Best) (used : List (ℕ × List ℕ)) → best_of markets ≡ best → Reports event.now log.old.list 1 (requote event.now.number (state_of markets (E.buys engine.old) (E.sells engine.old) orders.old.items used)).notices log.new.list result }
+    ensures state { (markets : List Best) (used : List (ℕ × List ℕ)) → best_of markets ≡ best
+        → (requote event.now.number (state_of markets (E.buys engine.old)
+        (E.sells engine.old) orders.old.items used)).state
+        ≡ state_of markets (E.buys engine.new) (E.sells engine.new) orders.new.items used }
+    ensures reports { (markets : List Best) (used : List (ℕ × List ℕ)) → best_of markets ≡ best
+        → Reports event.now log.old.list 1 (requote event.now.number (state_of markets (E.buys engine.old)
+        (E.sells engine.old) orders.old.items used)).notices log.new.list result }
     ensures small { All IsSmall orders.new.items }
-    ensures most { steps.new ≤ steps.old + 1664 * (E.width engine.old + 2) * (examined_in_recheck (reprice event.now.number best (E.buys engine.old)) (reprice event.now.number best (E.sells engine.old)) + 1) }
+    ensures most { steps.new ≤ steps.old + 1664 * (E.width engine.old + 2) * (examined_in_recheck
+        (reprice event.now.number best (E.buys engine.old))
+        (reprice event.now.number best (E.sells engine.old)) + 1) }
     ensures best { E.best engine.new ≡ best }
     ensures latest { E.latest engine.new ≡ event.now.number }
 {
@@ -60,16 +68,24 @@ pub fn on_quote<E: Engine, L: Ledger>(
     requires market { market < length markets.old }
     requires ready { E.ready engine.old None }
     requires later { E.latest engine.old < event.now.number }
-    requires left { HaveLeft (requoted_rows event.now.number (best_of (slice_set markets.old market quote)) (E.buys engine.old) (E.sells engine.old)).fills orders.old.items }
+    requires left { HaveLeft (requoted_rows event.now.number (best_of (slice_set markets.old market quote))
+        (E.buys engine.old) (E.sells engine.old)).fills orders.old.items }
     requires small { All IsSmall orders.old.items }
     requires few { length (E.buys engine.old) + length (E.sells engine.old) < 2 ^ 30 }
     requires places { 2 * (length (E.buys engine.old) + length (E.sells engine.old)) ≤ log.old.places }
     requires buffers { 2 * (length (E.buys engine.old) + length (E.sells engine.old)) ≤ log.old.buffers }
     requires best { E.best engine.old ≡ best_of markets.old }
-    ensures state { (used : List (ℕ × List ℕ)) → (on_quote event.now.number market quote (state_of markets.old (E.buys engine.old) (E.sells engine.old) orders.old.items used)).state ≡ state_of markets.new (E.buys engine.new) (E.sells engine.new) orders.new.items used }
-    ensures reports { (used : List (ℕ × List ℕ)) → Reports event.now log.old.list 1 (on_quote event.now.number market quote (state_of markets.old (E.buys engine.old) (E.sells engine.old) orders.old.items used)).notices log.new.list result }
+    ensures state { (used : List (ℕ × List ℕ)) → (on_quote event.now.number market quote (state_of markets.old
+        (E.buys engine.old) (E.sells engine.old) orders.old.items used)).state
+        ≡ state_of markets.new (E.buys engine.new) (E.sells engine.new) orders.new.items used }
+    ensures reports { (used : List (ℕ × List ℕ)) → Reports event.now log.old.list 1
+        (on_quote event.now.number market quote (state_of markets.old (E.buys engine.old)
+        (E.sells engine.old) orders.old.items used)).notices log.new.list result }
     ensures small { All IsSmall orders.new.items }
-    ensures most { (used : List (ℕ × List ℕ)) → steps.new ≤ steps.old + 1664 * (E.width engine.old + 2) * (examined_by_quote event.now.number (state_of markets.old (E.buys engine.old) (E.sells engine.old) orders.old.items used) (with_quote market quote (state_of markets.old (E.buys engine.old) (E.sells engine.old) orders.old.items used)) + 1) }
+    ensures most { (used : List (ℕ × List ℕ)) → steps.new
+        ≤ steps.old + 1664 * (E.width engine.old + 2) * (examined_by_quote event.now.number
+        (state_of markets.old (E.buys engine.old) (E.sells engine.old) orders.old.items used) (with_quote market quote
+        (state_of markets.old (E.buys engine.old) (E.sells engine.old) orders.old.items used)) + 1) }
     ensures count { length markets.new ≡ length markets.old }
     ensures best { E.best engine.new ≡ best_of markets.new }
     ensures latest { E.latest engine.new ≤ event.now.number }

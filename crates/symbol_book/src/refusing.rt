@@ -23,7 +23,8 @@ use venue_words::{Bytes, Event, Kind, Rule, Side};
 #[tactic(auto, unfolding(eager_meaning::specs::Orders::known_of))]
 fn known_of(tick: u32, used: bool, live: Option<Found>, orders: &[Order]) -> Known
     requires here { IfSome live (λ found. found.number < length orders.now) }
-    ensures known { (rows : List Priced) (is : Option Live) → IsFound orders.now rows is live → result ≡ known_of tick used is }
+    ensures known { (rows : List Priced) (is : Option Live) → IsFound orders.now rows is live → result
+        ≡ known_of tick used is }
     ensures tick { result.tick ≡ tick }
 {
     match live {
@@ -59,7 +60,8 @@ pub fn rule_of_request(
     requires tick { IsTick tick }
     requires here { IfSome live (λ found. found.number < length orders.now) }
     ensures { (rows : List Priced) (is : Option Live) → IsFound orders.now rows is live
-        → result ≡ verdict event.now.command (known_of tick (is_used own.now.member own.now.id.items (used_of ids.now.entries)) is) }
+        → result ≡ verdict event.now.command (known_of tick (is_used own.now.member own.now.id.items
+        (used_of ids.now.entries)) is) }
 {
     let known = known_of(tick, ids.contains(own), live, orders);
     verdict(&event.command, &known)
@@ -80,7 +82,8 @@ pub fn refuse(
     requires here { IfSome live (λ found. found.number < length orders.now) }
     requires places { 0 < log.old.places }
     ensures reports { (rows : List Priced) (is : Option Live) → IsFound orders.now rows is live
-        → Reports event.now log.old.list 1 (record { member = member; kind = refusal answer id orig is rule } ∷ []) log.new.list result }
+        → Reports event.now log.old.list 1 (record { member = member; kind = refusal answer id orig is rule } ∷ [])
+        log.new.list result }
 {
     let (first, state) = first_and_state(live, orders);
     log.push(
@@ -102,7 +105,11 @@ pub fn refuse(
 fn first_and_state(live: Option<Found>, orders: &[Order]) -> (u32, u8)
     requires here { IfSome live (λ found. found.number < length orders.now) }
     ensures { (rows : List Priced) (is : Option Live) → IsFound orders.now rows is live
-        → result ≡ (option_map_or (λ found. found.order.first) is 0, option_map_or (λ found. live_state found.order) is 56) }
+        → result ≡ (
+          option_map_or (λ found. found.order.first) is 0,
+          option_map_or
+              (λ found. live_state found.order) is 56,
+        ) }
 {
     match live {
         Some(found) => {

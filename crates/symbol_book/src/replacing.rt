@@ -54,7 +54,11 @@ fn same_method(x: Method, y: Method) -> bool
 #[tactic(auto, unfolding(eager_meaning::specs::Changing::only_lowers))]
 fn only_lowers(tick: u32, terms: &Terms, old: &Row, quantity: u32) -> bool
     requires { IsTick tick }
-    ensures { (live : Live) → live.row.row ≡ record old.now { leaves = live.row.row.leaves; traded = live.row.row.traded } → live.order.quantity ≡ quantity → result ≡ only_lowers tick terms.now live }
+    ensures { (live : Live) → live.row.row ≡ record old.now {
+      leaves = live.row.row.leaves;
+      traded =
+          live.row.row.traded;
+    } → live.order.quantity ≡ quantity → result ≡ only_lowers tick terms.now live }
 {
     let new = row_of(tick, 0, 0, 0, 0, terms);
     same_key(new.key, old.key)
@@ -69,7 +73,8 @@ fn only_lowers(tick: u32, terms: &Terms, old: &Row, quantity: u32) -> bool
 fn lowers(tick: u32, terms: &Terms, orders: &[Order], found: &Found) -> bool
     requires tick { IsTick tick }
     requires here { found.now.number < length orders.now }
-    ensures { (rows : List Priced) (live : Live) → IsFoundAs orders.now rows live found.now → result ≡ only_lowers tick terms.now live }
+    ensures { (rows : List Priced) (live : Live) → IsFoundAs orders.now rows live found.now → result
+        ≡ only_lowers tick terms.now live }
 {
     let order = &orders[found.number as usize];
     only_lowers(tick, terms, &found.row, order.quantity)
@@ -81,7 +86,8 @@ fn set_terms(tick: u32, orders: &mut Vec<Order>, number: u32, id: Bytes, terms: 
     requires here { number < length orders.old.items }
     requires small { All IsSmall orders.old.items }
     requires short { length id ≤ longest_id }
-    requires more { (order : Order) → slice_get orders.old.items number ≡ Some order → order.cum < quantity_of terms.now }
+    requires more { (order : Order) → slice_get orders.old.items number ≡ Some order
+        → order.cum < quantity_of terms.now }
     ensures items { orders.new.items ≡ changed_at (replaced_order tick id terms.now) number orders.old.items }
     ensures small { All IsSmall orders.new.items }
     ensures room { (vec_len orders.new ≡ vec_len orders.old) × (vec_capacity orders.new ≡ vec_capacity orders.old) }
@@ -109,7 +115,8 @@ fn resize<E: Engine, L: Ledger>(
     steps: &mut Steps<L>,
 ) -> u32
     requires tick { IsTick tick }
-    requires found { (live : Live) × IsFoundAs orders.old.items (E.buys engine.old ++ E.sells engine.old) live found × (live.order.cum < quantity_of terms.now) }
+    requires found { (live : Live) × IsFoundAs orders.old.items (E.buys engine.old ++ E.sells engine.old) live found
+        × (live.order.cum < quantity_of terms.now) }
     requires here { found.number < length orders.old.items }
     requires owner { room.own.member ≡ member }
     requires fresh { is_used member room.own.id.items (used_of ids.old.entries) ≡ false }
@@ -119,8 +126,16 @@ fn resize<E: Engine, L: Ledger>(
     requires small { All IsSmall orders.old.items }
     requires id_room { 0 < ids.old.room }
     requires places { 0 < log.old.places }
-    ensures state { (markets : List Best) (live : Live) → IsFoundAs orders.old.items (E.buys engine.old ++ E.sells engine.old) live found → (resize tick member room.own.id.items room.orig.id.items terms.now live (state_of markets (E.buys engine.old) (E.sells engine.old) orders.old.items (used_of ids.old.entries))).state ≡ state_of markets (E.buys engine.new) (E.sells engine.new) orders.new.items (used_of ids.new.entries) }
-    ensures reports { (markets : List Best) (live : Live) → IsFoundAs orders.old.items (E.buys engine.old ++ E.sells engine.old) live found → Reports event.now log.old.list 1 (resize tick member room.own.id.items room.orig.id.items terms.now live (state_of markets (E.buys engine.old) (E.sells engine.old) orders.old.items (used_of ids.old.entries))).notices log.new.list result }
+    ensures state { (markets : List Best) (live : Live)
+        → IsFoundAs orders.old.items (E.buys engine.old ++ E.sells engine.old) live found
+        → (resize tick member room.own.id.items room.orig.id.items terms.now live (state_of markets
+        (E.buys engine.old) (E.sells engine.old) orders.old.items (used_of ids.old.entries))).state
+        ≡ state_of markets (E.buys engine.new) (E.sells engine.new) orders.new.items (used_of ids.new.entries) }
+    ensures reports { (markets : List Best) (live : Live)
+        → IsFoundAs orders.old.items (E.buys engine.old ++ E.sells engine.old) live found
+        → Reports event.now log.old.list 1 (resize tick member room.own.id.items room.orig.id.items terms.now live
+        (state_of markets (E.buys engine.old) (E.sells engine.old) orders.old.items
+        (used_of ids.old.entries))).notices log.new.list result }
     ensures ids { ids.new.entries ≡ with_id member room.own.id.items found.number ids.old.entries }
     ensures small { All IsSmall orders.new.items }
     ensures most { steps.new ≤ steps.old + 2048 }
@@ -168,8 +183,10 @@ fn reenter<E: Engine, L: Ledger>(
     steps: &mut Steps<L>,
 ) -> u32
     requires tick { IsTick tick }
-    requires found { (live : Live) × IsFoundAs orders.old.items (E.buys engine.old ++ E.sells engine.old) live found × (live.order.cum < quantity_of terms.now)
-        × ReplaceFits tick event.now.number member room.own.id.items terms.now live (E.best engine.old) (E.buys engine.old) (E.sells engine.old) orders.old.items }
+    requires found { (live : Live) × IsFoundAs orders.old.items (E.buys engine.old ++ E.sells engine.old) live found
+        × (live.order.cum < quantity_of terms.now)
+        × ReplaceFits tick event.now.number member room.own.id.items terms.now live (E.best engine.old)
+        (E.buys engine.old) (E.sells engine.old) orders.old.items }
     requires here { found.number < length orders.old.items }
     requires count { length entered.old.items ≡ length orders.old.items }
     requires owner { room.own.member ≡ member }
@@ -184,12 +201,26 @@ fn reenter<E: Engine, L: Ledger>(
     requires few { length (E.buys engine.old) + length (E.sells engine.old) < 2 ^ 30 }
     requires places { 2 * (length (E.buys engine.old) + length (E.sells engine.old)) + 4 ≤ log.old.places }
     requires buffers { 2 * (length (E.buys engine.old) + length (E.sells engine.old)) + 3 ≤ log.old.buffers }
-    ensures state { (markets : List Best) (live : Live) → best_of markets ≡ E.best engine.old → IsFoundAs orders.old.items (E.buys engine.old ++ E.sells engine.old) live found → (enter (arrival_of_replace tick event.now.number member room.own.id.items room.orig.id.items terms.now live (state_of markets (E.buys engine.old) (E.sells engine.old) orders.old.items (used_of ids.old.entries)))).state ≡ state_of markets (E.buys engine.new) (E.sells engine.new) orders.new.items (used_of ids.new.entries) }
-    ensures reports { (markets : List Best) (live : Live) → best_of markets ≡ E.best engine.old → IsFoundAs orders.old.items (E.buys engine.old ++ E.sells engine.old) live found → Reports event.now log.old.list 1 (enter (arrival_of_replace tick event.now.number member room.own.id.items room.orig.id.items terms.now live (state_of markets (E.buys engine.old) (E.sells engine.old) orders.old.items (used_of ids.old.entries)))).notices log.new.list result }
-    ensures entered { (live : Live) → IsFoundAs orders.old.items (E.buys engine.old ++ E.sells engine.old) live found → entered.new.items ≡ slice_set entered.old.items found.number (if_it_rests (is_immediate terms.now) (row_of tick event.now.number found.number member live.order.cum terms.now)) }
+    ensures state { (markets : List Best) (live : Live) → best_of markets ≡ E.best engine.old
+        → IsFoundAs orders.old.items (E.buys engine.old ++ E.sells engine.old) live found
+        → (enter (arrival_of_replace tick event.now.number member room.own.id.items room.orig.id.items terms.now live
+        (state_of markets (E.buys engine.old) (E.sells engine.old) orders.old.items (used_of ids.old.entries)))).state
+        ≡ state_of markets (E.buys engine.new) (E.sells engine.new) orders.new.items (used_of ids.new.entries) }
+    ensures reports { (markets : List Best) (live : Live) → best_of markets ≡ E.best engine.old
+        → IsFoundAs orders.old.items (E.buys engine.old ++ E.sells engine.old) live found
+        → Reports event.now log.old.list 1 (enter (arrival_of_replace tick event.now.number member room.own.id.items
+        room.orig.id.items terms.now live (state_of markets (E.buys engine.old) (E.sells engine.old) orders.old.items
+        (used_of ids.old.entries)))).notices log.new.list result }
+    ensures entered { (live : Live) → IsFoundAs orders.old.items (E.buys engine.old ++ E.sells engine.old) live found
+        → entered.new.items ≡ slice_set entered.old.items found.number (if_it_rests (is_immediate terms.now)
+        (row_of tick event.now.number found.number member live.order.cum terms.now)) }
     ensures ids { ids.new.entries ≡ with_id member room.own.id.items found.number ids.old.entries }
     ensures small { All IsSmall orders.new.items }
-    ensures most { (markets : List Best) (live : Live) → best_of markets ≡ E.best engine.old → IsFoundAs orders.old.items (E.buys engine.old ++ E.sells engine.old) live found → steps.new ≤ steps.old + 512 + 2048 * (E.width engine.old + 1) * (examined_by_arrival (arrival_of_replace tick event.now.number member room.own.id.items room.orig.id.items terms.now live (state_of markets (E.buys engine.old) (E.sells engine.old) orders.old.items (used_of ids.old.entries))) + 1) }
+    ensures most { (markets : List Best) (live : Live) → best_of markets ≡ E.best engine.old
+        → IsFoundAs orders.old.items (E.buys engine.old ++ E.sells engine.old) live found → steps.new
+        ≤ steps.old + 512 + 2048 * (E.width engine.old + 1) * (examined_by_arrival
+        (arrival_of_replace tick event.now.number member room.own.id.items room.orig.id.items terms.now live
+        (state_of markets (E.buys engine.old) (E.sells engine.old) orders.old.items (used_of ids.old.entries))) + 1) }
     ensures best { E.best engine.new ≡ E.best engine.old }
     ensures latest { E.latest engine.new ≡ event.now.number }
 {
@@ -239,8 +270,10 @@ fn replace<E: Engine, L: Ledger>(
     steps: &mut Steps<L>,
 ) -> u32
     requires tick { IsTick tick }
-    requires found { (live : Live) × IsFoundAs orders.old.items (E.buys engine.old ++ E.sells engine.old) live found × (live.order.cum < quantity_of terms.now)
-        × ReplaceFits tick event.now.number member room.own.id.items terms.now live (E.best engine.old) (E.buys engine.old) (E.sells engine.old) orders.old.items }
+    requires found { (live : Live) × IsFoundAs orders.old.items (E.buys engine.old ++ E.sells engine.old) live found
+        × (live.order.cum < quantity_of terms.now)
+        × ReplaceFits tick event.now.number member room.own.id.items terms.now live (E.best engine.old)
+        (E.buys engine.old) (E.sells engine.old) orders.old.items }
     requires here { found.number < length orders.old.items }
     requires count { length entered.old.items ≡ length orders.old.items }
     requires owner { room.own.member ≡ member }
@@ -255,12 +288,25 @@ fn replace<E: Engine, L: Ledger>(
     requires few { length (E.buys engine.old) + length (E.sells engine.old) < 2 ^ 30 }
     requires places { 2 * (length (E.buys engine.old) + length (E.sells engine.old)) + 4 ≤ log.old.places }
     requires buffers { 2 * (length (E.buys engine.old) + length (E.sells engine.old)) + 3 ≤ log.old.buffers }
-    ensures state { (markets : List Best) (live : Live) → best_of markets ≡ E.best engine.old → IsFoundAs orders.old.items (E.buys engine.old ++ E.sells engine.old) live found → (replace tick event.now.number member room.own.id.items room.orig.id.items terms.now live (state_of markets (E.buys engine.old) (E.sells engine.old) orders.old.items (used_of ids.old.entries))).state ≡ state_of markets (E.buys engine.new) (E.sells engine.new) orders.new.items (used_of ids.new.entries) }
-    ensures reports { (markets : List Best) (live : Live) → best_of markets ≡ E.best engine.old → IsFoundAs orders.old.items (E.buys engine.old ++ E.sells engine.old) live found → Reports event.now log.old.list 1 (replace tick event.now.number member room.own.id.items room.orig.id.items terms.now live (state_of markets (E.buys engine.old) (E.sells engine.old) orders.old.items (used_of ids.old.entries))).notices log.new.list result }
-    ensures entered { (live : Live) → IsFoundAs orders.old.items (E.buys engine.old ++ E.sells engine.old) live found → entered.new.items ≡ entered_by_replace tick event.now.number member terms.now live entered.old.items }
+    ensures state { (markets : List Best) (live : Live) → best_of markets ≡ E.best engine.old
+        → IsFoundAs orders.old.items (E.buys engine.old ++ E.sells engine.old) live found
+        → (replace tick event.now.number member room.own.id.items room.orig.id.items terms.now live (state_of markets
+        (E.buys engine.old) (E.sells engine.old) orders.old.items (used_of ids.old.entries))).state
+        ≡ state_of markets (E.buys engine.new) (E.sells engine.new) orders.new.items (used_of ids.new.entries) }
+    ensures reports { (markets : List Best) (live : Live) → best_of markets ≡ E.best engine.old
+        → IsFoundAs orders.old.items (E.buys engine.old ++ E.sells engine.old) live found
+        → Reports event.now log.old.list 1 (replace tick event.now.number member room.own.id.items room.orig.id.items
+        terms.now live (state_of markets (E.buys engine.old) (E.sells engine.old) orders.old.items
+        (used_of ids.old.entries))).notices log.new.list result }
+    ensures entered { (live : Live) → IsFoundAs orders.old.items (E.buys engine.old ++ E.sells engine.old) live found
+        → entered.new.items ≡ entered_by_replace tick event.now.number member terms.now live entered.old.items }
     ensures ids { ids.new.entries ≡ with_id member room.own.id.items found.number ids.old.entries }
     ensures small { All IsSmall orders.new.items }
-    ensures most { (markets : List Best) (live : Live) → best_of markets ≡ E.best engine.old → IsFoundAs orders.old.items (E.buys engine.old ++ E.sells engine.old) live found → steps.new ≤ steps.old + 2048 + 2048 * (E.width engine.old + 1) * (examined_by_replace tick event.now.number member room.own.id.items room.orig.id.items terms.now live (state_of markets (E.buys engine.old) (E.sells engine.old) orders.old.items (used_of ids.old.entries)) + 1) }
+    ensures most { (markets : List Best) (live : Live) → best_of markets ≡ E.best engine.old
+        → IsFoundAs orders.old.items (E.buys engine.old ++ E.sells engine.old) live found → steps.new
+        ≤ steps.old + 2048 + 2048 * (E.width engine.old + 1) *
+        (examined_by_replace tick event.now.number member room.own.id.items room.orig.id.items terms.now live
+        (state_of markets (E.buys engine.old) (E.sells engine.old) orders.old.items (used_of ids.old.entries)) + 1) }
     ensures best { E.best engine.new ≡ E.best engine.old }
     ensures latest { E.latest engine.new ≤ event.now.number }
 {
@@ -295,19 +341,31 @@ pub fn on_replace<E: Engine, L: Ledger>(
     requires command { event.now.command ≡ Replace member id.now orig.now terms.now }
     requires own { CopiesOwn member id.now room }
     requires orig { CopiesOrig member orig.now room }
-    requires kept { KeepsOrders entered.old.items orders.old.items (E.buys engine.old ++ E.sells engine.old) ids.old.entries }
+    requires kept { KeepsOrders entered.old.items orders.old.items
+        (E.buys engine.old ++ E.sells engine.old) ids.old.entries }
     requires short { length id.now ≤ longest_id }
-    requires fits { (live : Live) → live_named member orig.now orders.old.items (E.buys engine.old ++ E.sells engine.old) ≡ Some live → verdict (Replace member id.now orig.now terms.now) (known_of tick (is_used member id.now (used_of ids.old.entries)) (Some live)) ≡ None
-        → (live.order.cum < quantity_of terms.now) × ReplaceFits tick event.now.number member id.now terms.now live (E.best engine.old) (E.buys engine.old) (E.sells engine.old) orders.old.items }
+    requires fits { (live : Live) → live_named member orig.now orders.old.items
+        (E.buys engine.old ++ E.sells engine.old) ≡ Some live
+        → verdict (Replace member id.now orig.now terms.now) (known_of tick
+        (is_used member id.now (used_of ids.old.entries)) (Some live)) ≡ None
+        → (live.order.cum < quantity_of terms.now) × ReplaceFits tick event.now.number member id.now terms.now live
+        (E.best engine.old) (E.buys engine.old) (E.sells engine.old) orders.old.items }
     requires ready { E.ready engine.old (Some (key_of tick terms.now)) }
     requires later { E.latest engine.old < event.now.number }
     requires id_room { 0 < ids.old.room }
     requires few { length (E.buys engine.old) + length (E.sells engine.old) < 2 ^ 30 }
     requires places { 2 * (length (E.buys engine.old) + length (E.sells engine.old)) + 4 ≤ log.old.places }
     requires buffers { 2 * (length (E.buys engine.old) + length (E.sells engine.old)) + 3 ≤ log.old.buffers }
-    ensures worked { (markets : List Best) → best_of markets ≡ E.best engine.old → IsWorked tick event.now (state_of markets (E.buys engine.old) (E.sells engine.old) orders.old.items (used_of ids.old.entries)) entered.old.items ids.old.entries log.old.list (state_of markets (E.buys engine.new) (E.sells engine.new) orders.new.items (used_of ids.new.entries)) entered.new.items ids.new.entries log.new.list result }
+    ensures worked { (markets : List Best) → best_of markets ≡ E.best engine.old
+        → IsWorked tick event.now (state_of markets (E.buys engine.old) (E.sells engine.old) orders.old.items
+        (used_of ids.old.entries)) entered.old.items ids.old.entries log.old.list (state_of markets
+        (E.buys engine.new) (E.sells engine.new) orders.new.items
+        (used_of ids.new.entries)) entered.new.items ids.new.entries log.new.list result }
     ensures small { All IsSmall orders.new.items }
-    ensures most { (markets : List Best) → best_of markets ≡ E.best engine.old → steps.new ≤ steps.old + 2048 + 2048 * (E.width engine.old + 1) * (examined tick (state_of markets (E.buys engine.old) (E.sells engine.old) orders.old.items (used_of ids.old.entries)) event.now.number event.now.command + 1) }
+    ensures most { (markets : List Best) → best_of markets ≡ E.best engine.old → steps.new
+        ≤ steps.old + 2048 + 2048 * (E.width engine.old + 1) * (examined tick
+        (state_of markets (E.buys engine.old) (E.sells engine.old) orders.old.items
+        (used_of ids.old.entries)) event.now.number event.now.command + 1) }
     ensures idle { (steps.new ≡ steps.old) ⊎ (0 < length (E.buys engine.old ++ E.sells engine.old)) }
     ensures best { E.best engine.new ≡ E.best engine.old }
     ensures latest { E.latest engine.new ≤ event.now.number }
@@ -315,8 +373,23 @@ pub fn on_replace<E: Engine, L: Ledger>(
     let live = find_live(ids, orders, entered, &room.orig);
     match rule_of_request(tick, ids, &room.own, live, orders, event) {
         Some(rule) => {
-            let Room { own: _, order: _, shown, orig } = room;
-            refuse(log, event, member, b'2', shown, Bytes(orig.id), live, orders, rule)
+            let Room {
+                own: _,
+                order: _,
+                shown,
+                orig,
+            } = room;
+            refuse(
+                log,
+                event,
+                member,
+                b'2',
+                shown,
+                Bytes(orig.id),
+                live,
+                orders,
+                rule,
+            )
         }
         None => match live {
             Some(found) => replace(

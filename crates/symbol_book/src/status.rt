@@ -33,7 +33,8 @@ fn view_now<E: Engine, L: Ledger>(
     requires here { number < length orders.now }
     requires name { (order : Order) → slice_get orders.now number ≡ Some order → id ≡ order.id }
     requires kept { AreEntered entered.now orders.now (E.buys engine.now ++ E.sells engine.now) }
-    ensures view { (order : Order) → slice_get orders.now number ≡ Some order → result ≡ view_of order (row_of_order number (E.buys engine.now ++ E.sells engine.now)) }
+    ensures view { (order : Order) → slice_get orders.now number ≡ Some order → result
+        ≡ view_of order (row_of_order number (E.buys engine.now ++ E.sells engine.now)) }
     ensures most { steps.new ≤ steps.old + 512 }
 {
     let order = &orders[number as usize];
@@ -63,7 +64,9 @@ pub fn on_status<E: Engine, L: Ledger>(
     requires owner { room.orig.member ≡ member }
     requires kept { KeepsOrders entered.now orders.now (E.buys engine.now ++ E.sells engine.now) ids.now.entries }
     requires places { 0 < log.old.places }
-    ensures reports { (markets : List Best) → Reports event.now log.old.list 1 (on_status member room.orig.id.items side (state_of markets (E.buys engine.now) (E.sells engine.now) orders.now (used_of ids.now.entries))).notices log.new.list result }
+    ensures reports { (markets : List Best) → Reports event.now log.old.list 1
+        (on_status member room.orig.id.items side (state_of markets (E.buys engine.now)
+        (E.sells engine.now) orders.now (used_of ids.now.entries))).notices log.new.list result }
     ensures most { steps.new ≤ steps.old + 512 }
 {
     let kind = match number_of(ids, orders, &room.orig) {

@@ -88,7 +88,8 @@ pub fn report_trades(
     requires place { place + 2 * length fills.now + 1 < 2 ^ 32 }
     requires places { 2 * length fills.now ≤ log.old.places }
     requires buffers { 2 * length fills.now ≤ log.old.buffers }
-    ensures reports { Reports event.now log.old.list place (trade_notices fills.now orders.old.items) log.new.list result }
+    ensures reports { Reports event.now log.old.list place
+        (trade_notices fills.now orders.old.items) log.new.list result }
     ensures orders { orders.new.items ≡ orders_after_all fills.now orders.old.items }
     ensures small { All IsSmall orders.new.items }
     ensures next { result ≡ place + 2 * length fills.now }

@@ -44,11 +44,14 @@ pub fn work<E: Engine, L: Ledger>(
     requires tick { IsTick tick }
     requires room { IsRoomFor event.now.command room }
     requires ready { E.ready engine.old (key_for tick event.now.command) }
-    requires narrow { IsNarrow (key_for tick event.now.command) (E.width engine.old) (key_count (E.buys engine.old ++ E.sells engine.old)) }
+    requires narrow { IsNarrow (key_for tick event.now.command) (E.width engine.old) (key_count
+        (E.buys engine.old ++ E.sells engine.old)) }
     requires later { E.latest engine.old < event.now.number }
     requires best { E.best engine.old ≡ best_of markets.old }
-    requires fits { CanWork tick event.now.number event.now.command (state_of markets.old (E.buys engine.old) (E.sells engine.old) orders.old.items (used_of ids.old.entries)) }
-    requires kept { KeepsOrders entered.old.items orders.old.items (E.buys engine.old ++ E.sells engine.old) ids.old.entries }
+    requires fits { CanWork tick event.now.number event.now.command (state_of markets.old (E.buys engine.old)
+        (E.sells engine.old) orders.old.items (used_of ids.old.entries)) }
+    requires kept { KeepsOrders entered.old.items orders.old.items
+        (E.buys engine.old ++ E.sells engine.old) ids.old.entries }
     requires order_room { vec_len orders.old < vec_capacity orders.old }
     requires row_room { vec_len entered.old < vec_capacity entered.old }
     requires id_room { 0 < ids.old.room }
@@ -56,9 +59,13 @@ pub fn work<E: Engine, L: Ledger>(
     requires few { length (E.buys engine.old) + length (E.sells engine.old) < 2 ^ 30 }
     requires places { 2 * (length (E.buys engine.old) + length (E.sells engine.old)) + 4 ≤ log.old.places }
     requires buffers { 2 * (length (E.buys engine.old) + length (E.sells engine.old)) + 3 ≤ log.old.buffers }
-    ensures worked { IsWorked tick event.now (state_of markets.old (E.buys engine.old) (E.sells engine.old) orders.old.items (used_of ids.old.entries)) entered.old.items ids.old.entries log.old.list (state_of markets.new (E.buys engine.new) (E.sells engine.new) orders.new.items (used_of ids.new.entries)) entered.new.items ids.new.entries log.new.list result }
+    ensures worked { IsWorked tick event.now (state_of markets.old (E.buys engine.old)
+        (E.sells engine.old) orders.old.items (used_of ids.old.entries)) entered.old.items ids.old.entries
+        log.old.list (state_of markets.new (E.buys engine.new) (E.sells engine.new) orders.new.items
+        (used_of ids.new.entries)) entered.new.items ids.new.entries log.new.list result }
     ensures small { All IsSmall orders.new.items }
-    ensures most { steps.new ≤ steps.old + bound tick (state_of markets.old (E.buys engine.old) (E.sells engine.old) orders.old.items (used_of ids.old.entries)) event.now.number event.now.command }
+    ensures most { steps.new ≤ steps.old + bound tick (state_of markets.old (E.buys engine.old)
+        (E.sells engine.old) orders.old.items (used_of ids.old.entries)) event.now.number event.now.command }
     ensures count { length markets.new ≡ length markets.old }
     ensures best { E.best engine.new ≡ best_of markets.new }
     ensures latest { E.latest engine.new ≤ event.now.number }
@@ -85,7 +92,11 @@ pub fn work<E: Engine, L: Ledger>(
         } => on_replace(
             tick, engine, orders, entered, ids, log, event, *member, id, orig, terms, room, steps,
         ),
-        Command::Status { member, id: _, side } => on_status(
+        Command::Status {
+            member,
+            id: _,
+            side,
+        } => on_status(
             engine, orders, entered, ids, log, event, *member, *side, room, steps,
         ),
     }

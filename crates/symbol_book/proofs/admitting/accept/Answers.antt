@@ -1,4 +1,4 @@
-use Rattle.std.proofs.Common.{◌≡◌, ◌≤◌, ◌∙◌, ◌++◌, [], ◌∷◌, All, length, List, ℕ, sym, ap, subst}
+use Rattle.std.proofs.Common.{◌≤◌, ◌∙◌, ◌++◌, [], ◌∷◌, All, length, List, ℕ, sym, ap, subst}
 use Rattle.venue_words.specs.Conditions.{longest_id}
 use Rattle.eager_meaning.specs.declared.order.Order.{Order}
 use Rattle.symbol_book.specs.Orders.{IsSmall}

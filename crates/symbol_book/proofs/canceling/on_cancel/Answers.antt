@@ -9,7 +9,6 @@ use Rattle.symbol_book.specs.Finding.{IsFound}
 use Rattle.symbol_book.specs.Ids.{used_of}
 use Rattle.symbol_book.specs.Rows.{AreEntered}
 use Rattle.symbol_book.specs.State.{state_of}
-use Rattle.symbol_book.specs.declared.finding.Found.{Found}
 use Rattle.symbol_book.proofs.Requests.{cancel_refused, cancel_none, cancel_done, cancel_is_fresh}
 use Rattle.symbol_book.proofs.canceling.on_cancel.Goals as goal
 

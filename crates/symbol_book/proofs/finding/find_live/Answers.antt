@@ -1,6 +1,4 @@
-use Rattle.std.proofs.Common.{◌≡◌, ℕ, Some, None, subst, sym}
-use Rattle.std.specs.Prelude.{Option}
-use Rattle.venue_words.specs.declared.row.Row.{Row}
+use Rattle.std.proofs.Common.{subst}
 use Rattle.eager_meaning.specs.Orders.{order_named}
 use Rattle.symbol_book.specs.Finding.{IsNumber, IsLiveRow}
 use Rattle.symbol_book.proofs.LiveRows.{found_live, none_found, none_named}

@@ -1,5 +1,5 @@
-use Rattle.std.proofs.Common.{◌≡◌, ℕ, ◌∙◌, sym, ap}
-use Rattle.std.specs.Prelude.{Option, option_map}
+use Rattle.std.proofs.Common.{ℕ, ◌∙◌, sym, ap}
+use Rattle.std.specs.Prelude.{option_map}
 use Rattle.eager_meaning.specs.declared.order.Order.{Order}
 use Rattle.symbol_book.proofs.Numbers.{named_by_number, number_found}
 use Rattle.symbol_book.proofs.finding.number_of.Goals as goal

@@ -1,5 +1,4 @@
-use Rattle.std.proofs.Common.{◌≡◌, ◌∙◌, ap, Bool, arith}
-use Rattle.eager_meaning.specs.declared.known.Known.{Known}
+use Rattle.std.proofs.Common.{◌∙◌, ap, Bool}
 use Rattle.eager_meaning.specs.Orders.{known_of}
 use Rattle.eager_meaning.specs.Verdict.{verdict}
 use Rattle.symbol_book.proofs.refusing.rule_of_request.Goals as goal

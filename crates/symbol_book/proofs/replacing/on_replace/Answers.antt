@@ -1,7 +1,6 @@
 use Rattle.std.proofs.Common.{◌≡◌, [], ◌++◌, ℕ, List, Some, None, inr, refl, sym, ◌∙◌, subst, rules}
-use Rattle.std.specs.Prelude.{Option, ◌<◌}
+use Rattle.std.specs.Prelude.{Option}
 use Rattle.venue_words.specs.declared.command.Command.TheVariants.{Replace}
-use Rattle.eager_meaning.specs.Terms.{quantity_of}
 use Rattle.symbol_book.specs.Fitting.{ReplaceFits}
 use Rattle.venue_words.specs.declared.command.Rule.{Rule}
 use Rattle.venue_words.specs.declared.row.Row.{Row}

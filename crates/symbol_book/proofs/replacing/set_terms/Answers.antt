@@ -1,4 +1,4 @@
-use Rattle.std.proofs.Common.{◌≡◌, ◌<◌, ◌≤◌, arith}
+use Rattle.std.proofs.Common.{arith}
 use Rattle.std.proofs.lemmas.List.Elements.{All-set}
 use Rattle.market_laws.proofs.Naming.{quantity_most}
 use Rattle.symbol_book.specs.Orders.{IsSmall}

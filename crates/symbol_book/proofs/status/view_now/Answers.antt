@@ -1,10 +1,9 @@
-use Rattle.std.proofs.Common.{◌≡◌, ℕ, ◌++◌, List, Some, None, ap, sym, subst, ◌∙◌, refl, length}
-use Rattle.std.specs.Prelude.{Option, slice_get, slice_index_or, option_map, unwrap_or}
-use Rattle.venue_words.specs.declared.report.View.{View}
+use Rattle.std.proofs.Common.{◌≡◌, ℕ, ◌++◌, Some, ap, sym, subst, ◌∙◌}
+use Rattle.std.specs.Prelude.{Option, option_map}
 use Rattle.venue_words.specs.declared.row.Priced.{Priced}
 use Rattle.venue_words.specs.Price.{price_shown}
 use Rattle.eager_meaning.specs.declared.order.Order.{Order}
-use Rattle.eager_meaning.specs.Showing.{view_of, view_closed, row_of_order}
+use Rattle.eager_meaning.specs.Showing.{view_of, row_of_order}
 use Rattle.symbol_book.specs.Finding.{IsLiveRow}
 use Rattle.symbol_book.proofs.LiveRows.{get_at, live_rests, none_rests}
 use Rattle.symbol_book.proofs.status.view_now.Goals as goal

@@ -1,5 +1,4 @@
-use Rattle.std.proofs.Common.{◌≡◌, ℕ, ◌+◌, ◌<◌, ◌≤◌, ◌∙◌, Some, None, true, length, sym, ap, subst, arith}
-use Rattle.venue_words.specs.declared.command.Command.{Command}
+use Rattle.std.proofs.Common.{◌≡◌, ◌+◌, ◌<◌, ◌∙◌, Some, true, length, sym, ap, subst, arith}
 use Rattle.symbol_book.specs.Book.{BookView}
 use Rattle.symbol_book.specs.Commands.{takes_command, key_for}
 use Rattle.symbol_book.proofs.Fits.{can_work}

@@ -1,4 +1,4 @@
-use Rattle.std.proofs.Common.{List, ◌++◌, length, arith}
+use Rattle.std.proofs.Common.{List, ◌++◌, arith}
 use Rattle.std.proofs.lemmas.List.{length-append}
 use Rattle.venue_words.specs.declared.row.Priced.{Priced}
 use Rattle.symbol_book.proofs.Bounds.{most_keys}

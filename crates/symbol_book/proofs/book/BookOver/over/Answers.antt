@@ -1,4 +1,3 @@
-use Rattle.std.proofs.Common.{◌≡◌}
 use Rattle.symbol_book.proofs.Keeping.{kept_first}
 use Rattle.symbol_book.proofs.book.BookOver.over.Goals as goal
 

@@ -1,4 +1,4 @@
-use Rattle.std.proofs.Common.{◌≡◌, ℕ, ◌-◌, ◌≤◌, length, All, vec_len}
+use Rattle.std.proofs.Common.{◌-◌, ◌≤◌, All, vec_len}
 use Rattle.symbol_book.specs.Buffers.{IsIdBuffer}
 use Rattle.symbol_book.proofs.id_buffers.IdBuffers.fill.Given as goal
 

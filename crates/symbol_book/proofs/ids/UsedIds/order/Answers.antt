@@ -1,4 +1,4 @@
-use Rattle.std.proofs.Common.{◌≡◌, ◌∙◌, ap}
+use Rattle.std.proofs.Common.{◌∙◌, ap}
 use Rattle.std.specs.Prelude.{option_map}
 use Rattle.symbol_book.specs.Ids.{IdList, entry_of}
 use Rattle.symbol_book.proofs.UsedNames.{order_is}
