@@ -102,6 +102,15 @@ unfolding reprice
 length_repriced event best [] = refl
 length_repriced event best (x ∷ rows) = ap suc (length_repriced event best rows)
 
+retime_has : (event : ℕ) (best : Best) (x : Priced) → HasLeaves x → HasLeaves (retime event best x)
+unfolding retime
+retime_has event best x h =
+    elim (option_eq nat_eq (value_under best x.row) x.value) as (λ b. HasLeaves (cond b x (record { row = x.row; value = value_under best x.row; time = event }))) [ true ↦ h | false ↦ h ]
+
+pub full_repriced : (event : ℕ) (best : Best) (rows : List Priced) → AllByRecursion HasLeaves rows → AllByRecursion HasLeaves (reprice event best rows)
+unfolding reprice
+full_repriced event best rows a = all_mapped HasLeaves (retime event best) (retime_has event best) rows a
+
 -- ---- rows that leave or change
 
 all_without : (P : Priced → Type 0) (entry : ℕ) (rows : List Priced) → AllByRecursion P rows → AllByRecursion P (without entry rows)
