@@ -8,7 +8,7 @@ ghost use Rattle.venue_core.specs.Books.{IsNewBook};
 ghost use Rattle.venue_core.specs.Joining.{IsFirstSeat};
 ghost use Rattle.venue_core.specs.Venues.{AreSeatsOf, setup_in, plain_setup};
 
-use crate::plain::PlainVenue;
+use crate::plain_venue::PlainVenue;
 use crate::seats::Seats;
 use crate::venue::Venue;
 use std::alloc::Global;

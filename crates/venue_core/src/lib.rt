@@ -3,13 +3,13 @@
 
 mod books;
 mod calls;
-mod plain;
+mod plain_venue;
 mod seated;
 mod seats;
 mod venue;
 
 pub use books::{make, plain};
-pub use plain::PlainVenue;
+pub use plain_venue::PlainVenue;
 pub use seated::Seated;
 pub use seats::Seats;
 pub use venue::Venue;

@@ -221,7 +221,7 @@ fn work_all<'a, R: Threads + Wait + Sync, V: Held + Drop + Send>(
     requires members { 4 ≤ venue.now.members }
     requires markets { 0 < venue.now.markets }
     requires shares { All (λ share. (share.floor.venue.now ≡ venue.now)
-        × AreSeatsOf venue.now share.floor.seats × HaveParts 1 share.floor.seats) shares.entry.items }
+        × AreSeatsOf venue.now share.floor.seats × HaveParts 1 share.floor.seats) shares.items }
     ensures many { IfOk result (λ others. length others.items ≡ length shares.entry.items) }
     ensures others { IfOk result (λ others.
         All (λ worked. AreSeatsOf venue.now worked.floor.seats × HaveParts 1 worked.floor.seats) others.items) }
