@@ -34,11 +34,11 @@ use Rattle.market_laws.proofs.Admitting.{enter_counts, quote_counts}
 use Rattle.market_laws.proofs.Living.{IsLive, live_found}
 use Rattle.market_laws.proofs.Replacing.{replace_counts}
 
-length_map : (f : Priced → Priced) (rows : List Priced) → length (map f rows) ≡ length rows
+pub length_map : (f : Priced → Priced) (rows : List Priced) → length (map f rows) ≡ length rows
 length_map f [] = refl
 length_map f (x ∷ xs) = let more = length_map f xs in omega arith
 
-length_filter : (p : Priced → Bool) (rows : List Priced) → length (filter p rows) ≤ length rows
+pub length_filter : (p : Priced → Bool) (rows : List Priced) → length (filter p rows) ≤ length rows
 length_filter p [] = omega arith
 length_filter p (x ∷ xs) =
     let more = length_filter p xs in
@@ -74,7 +74,7 @@ recheck_fewer buys sells =
     let second = sweep_fewer (in_priority half.others) (record { own = half.others; others = half.own; fills = half.fills }) in
     omega (arith, first, second)
 
-reprice_length : (event : ℕ) (best : Best) (rows : List Priced) → length (reprice event best rows) ≡ length rows
+pub reprice_length : (event : ℕ) (best : Best) (rows : List Priced) → length (reprice event best rows) ≡ length rows
 unfolding reprice
 reprice_length event best rows = length_map (retime event best) rows
 
@@ -93,11 +93,11 @@ entered_fewer taker immediate own others =
     elim immediate as (λ b. length (cond b own (own ++ left)) + length (rows_after (takes_of taker others) others) ≤ length own + length others + 1)
     [ true ↦ omega (arith, fewer) | false ↦ omega (arith, one, joined, fewer) ]
 
-rows_put : (side : Side) (own others : List Priced) (s : State) → rows_in (with_rows side own others s) ≡ length own + length others
+pub rows_put : (side : Side) (own others : List Priced) (s : State) → rows_in (with_rows side own others s) ≡ length own + length others
 rows_put Buy own others s = refl
 rows_put Sell own others s = omega arith
 
-rows_of_sides : (side : Side) (s : State) → length (own_rows side s) + length (other_rows side s) ≡ rows_in s
+pub rows_of_sides : (side : Side) (s : State) → length (own_rows side s) + length (other_rows side s) ≡ rows_in s
 rows_of_sides Buy s = refl
 rows_of_sides Sell s = omega arith
 

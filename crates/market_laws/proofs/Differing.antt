@@ -14,8 +14,8 @@ use Rattle.eager_meaning.specs.Floor.{floor}
 use Rattle.eager_meaning.specs.Walk.{walk, may_fill, taken_from, stands, total_of, least_fill}
 use Rattle.eager_meaning.specs.Matching.{takes_of, shares_of}
 use Rattle.market_laws.specs.Sound.{AreDifferent, IsNew, AllDiffer}
-use Rattle.market_laws.proofs.Lists.{all_filter, all_map}
-use Rattle.market_laws.proofs.Walking.{walk_all}
+use Rattle.market_laws.specs.ListLaws.{all_filter, all_map}
+use Rattle.market_laws.specs.WalkLaws.{walk_all}
 
 pub different_back : (x y : Row) → AreDifferent x y → AreDifferent y x
 different_back x y d = record { entry = λ e. d.entry (sym e); order = λ e. d.order (sym e) }

@@ -21,7 +21,7 @@ use Rattle.eager_meaning.specs.Entering.{leftover_notice, leftover_notices, ente
 use Rattle.eager_meaning.specs.Step.{Run, runs, step, outcome_of, reports_from}
 use Rattle.market_laws.specs.Replies.{AreToldBy, IsAt, ReportsAreInPlace, answers_new, rule_broken, IsAnswer, IsAnsweredOnce, NewIsAnsweredOnce}
 use Rattle.market_laws.proofs.Growing.{runs_append}
-use Rattle.market_laws.proofs.Lists.{all_found, all_flat}
+use Rattle.market_laws.specs.ListLaws.{all_found, all_flat}
 
 -- what an event adds
 pub told_by : (markets tick : ℕ) (history : List Event) (event : Event)
@@ -88,7 +88,7 @@ record AnswersFirst (event member : ℕ) (id : List ℕ) (terms : Terms) (broken
   says : IsAnswer event id terms broken answer.kind
   once : AllByRecursion NoAnswer others
 
-view_id : (order : Order) (x : Priced) → ((view_of order (Some x)).id ≡ order.id) × ((view_of order (Some x)).first ≡ order.first)
+pub view_id : (order : Order) (x : Priced) → ((view_of order (Some x)).id ≡ order.id) × ((view_of order (Some x)).first ≡ order.first)
 unfolding view_of view_at view_closed
 view_id order x =
     let P : View → Type 0 = λ v. (v.id ≡ order.id) × (v.first ≡ order.first) in

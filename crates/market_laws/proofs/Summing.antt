@@ -35,7 +35,7 @@ use Rattle.eager_meaning.specs.Changing.{cancel, on_cancel, replaced_order, only
 use Rattle.eager_meaning.specs.Orders.{order_named, changed_at}
 use Rattle.eager_meaning.specs.Step.{Run, runs, step, view_now, on_status, outcome_of, reports_from}
 use Rattle.market_laws.specs.Orders.{shares_of_order, shares_told_of, CumIsSumOfTrades}
-use Rattle.market_laws.proofs.Lists.{all_found, all_flat}
+use Rattle.market_laws.specs.ListLaws.{all_found, all_flat}
 use Rattle.market_laws.proofs.Siding.{changed_next}
 use Rattle.market_laws.proofs.Numbering.{kept_by_all, numbered_from_none}
 
@@ -372,5 +372,5 @@ cum_at n (o ∷ os) (suc k) order a h =
 pub cum_is_sum : CumIsSumOfTrades
 unfolding runs
 cum_is_sum markets tick history numbered k order h =
-    let is = kept_by_all tick IsSummed (step_summed tick) 0 _ history (numbered_from_none history numbered) (record { sums = λ first. refl; firsts = tt }) in
+    let is = kept_by_all (step tick) IsSummed (step_summed tick) 0 _ history (numbered_from_none history numbered) (record { sums = λ first. refl; firsts = tt }) in
     cum_at _ _ k order is.firsts h ∙ is.sums order.first

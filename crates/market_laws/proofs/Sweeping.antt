@@ -20,8 +20,8 @@ use Rattle.eager_meaning.specs.Walk.{total_of}
 use Rattle.eager_meaning.specs.Matching.{takes_of, fills_of, row_after, shares_of, rows_after}
 use Rattle.eager_meaning.specs.Recheck.{Sides, meet, crosses_any, sweep, recheck}
 use Rattle.market_laws.specs.Sound.{AreDifferent, IsNew, AllDiffer, IsHeld, IsLiveRow, IsSoundOrder, AreSound}
-use Rattle.market_laws.proofs.Lists.{all_map}
-use Rattle.market_laws.proofs.Walking.{rows_after_all, in_priority_all}
+use Rattle.market_laws.specs.ListLaws.{all_map}
+use Rattle.market_laws.specs.WalkLaws.{rows_after_all, in_priority_all}
 use Rattle.market_laws.proofs.Differing.{different_back, KeepsNames, IsSameOrDiffers, each_same_or_differs, differ_filter, differ_map, across_map, across_back, differ_in_priority, TakesDiffer, takes_differ, takes_within, taken_by, taken_cons, none_taken, Fits, shares_found}
 use Rattle.market_laws.proofs.Backing.{traded_in, found_after, none_before, traded_by_walk, held_after, still_held, live_unfilled, same_leaves, IsFit, takes_fit, no_take, takes_new, taker_trades, others_rest, met_held}
 
@@ -125,16 +125,19 @@ module _ (n : ℕ) (orders : List Order) (taker : Priced) (others : List Priced)
         ]) refl,
       )
 
-  pub others_live_after : AllByRecursion (λ x. IsLiveRow n (orders_after_all (fills_of taker (takes_of taker others)) orders) x.row) (rows_after (takes_of taker others) others)
-  unfolding rows_after
-  others_live_after =
+  -- the rows of the other side, before those that are filled leave
+  pub other_rows_held : AllByRecursion (λ x. IsHeld n (orders_after_all (fills_of taker (takes_of taker others)) orders) x.row) (map (λ x. row_after (shares_of (takes_of taker others) x) x) others)
+  other_rows_held =
       let takes : List Take = takes_of taker others in
       let next : List Order = orders_after_all (fills_of taker takes) orders in
       let both = all_both (λ x. IsLiveRow n orders x.row) (λ x. AllByRecursion (λ y. IsSameOrDiffers x.row y.row) others) (λ x. IsHeld n orders x.row × AllByRecursion (λ y. IsSameOrDiffers x.row y.row) others) (λ x l s. (l.held, s)) others live (each_same_or_differs others differ) in
       let heldness = all_both (λ x. IsHeld n orders x.row × AllByRecursion (λ y. IsSameOrDiffers x.row y.row) others) (λ x. AreDifferent taker.row x.row) (λ x. IsHeld n next (row_after (shares_of takes x) x).row)
       (λ x p d. met_held n orders taker others held live differ fresh x p.0 p.1 d) others both fresh in
-      live_unfilled n next (map (λ x. row_after (shares_of takes x) x) others)
-      (all_map (λ x. IsHeld n next (row_after (shares_of takes x) x).row) (λ x. IsHeld n next x.row) (λ x. row_after (shares_of takes x) x) (λ x p. p) others heldness)
+      all_map (λ x. IsHeld n next (row_after (shares_of takes x) x).row) (λ x. IsHeld n next x.row) (λ x. row_after (shares_of takes x) x) (λ x p. p) others heldness
+
+  pub others_live_after : AllByRecursion (λ x. IsLiveRow n (orders_after_all (fills_of taker (takes_of taker others)) orders) x.row) (rows_after (takes_of taker others) others)
+  unfolding rows_after
+  others_live_after = live_unfilled n (orders_after_all (fills_of taker (takes_of taker others)) orders) (map (λ x. row_after (shares_of (takes_of taker others) x) x) others) other_rows_held
 
   -- a row of the taker's side: the taker's own, or another
   own_held : (x : Priced) → IsHeld n orders x.row → IsSameOrDiffers taker.row x.row → IsNew x.row others → IsHeld n (orders_after_all (fills_of taker (takes_of taker others)) orders) (row_after (shares_of (record { contra = taker; shares = total_of (takes_of taker others) } ∷ []) x) x).row
@@ -161,19 +164,27 @@ pub record AreTakers (n : ℕ) (orders : List Order) (own others takers : List P
   pub same : AllByRecursion (λ t. AllByRecursion (λ y. IsSameOrDiffers t.row y.row) own) takers
   pub fresh : AllByRecursion (λ t. IsNew t.row others) takers
 
+-- the rows of the taker's side, before one that is filled leaves
+pub own_rows_held : (n : ℕ) (orders : List Order) (taker : Priced) (sides : Sides) → IsHeld n orders taker.row → AllByRecursion (λ y. IsSameOrDiffers taker.row y.row) sides.own → IsNew taker.row sides.others → AreSound n orders sides.own sides.others
+    → AllByRecursion (λ x. IsHeld n (orders_after_all (fills_of taker (takes_of taker sides.others)) orders) x.row) (map (λ x. row_after (shares_of (record { contra = taker; shares = total_of (takes_of taker sides.others) } ∷ []) x) x) sides.own)
+own_rows_held n orders taker sides h same fresh a =
+    let takes : List Take = takes_of taker sides.others in
+    let next : List Order = orders_after_all (fills_of taker takes) orders in
+    let mine : List Take = record { contra = taker; shares = total_of takes } ∷ [] in
+    let both = all_both (λ x. IsLiveRow n orders x.row) (λ x. IsNew x.row sides.others) (λ x. IsHeld n orders x.row × IsNew x.row sides.others) (λ x l d. (l.held, d)) sides.own a.own_live a.differ in
+    let own = all_both (λ x. IsHeld n orders x.row × IsNew x.row sides.others) (λ x. IsSameOrDiffers taker.row x.row) (λ x. IsHeld n next (row_after (shares_of mine x) x).row)
+    (λ x p d. own_held n orders taker sides.others h a.others_live a.others_differ fresh x p.0 d p.1) sides.own both same in
+    all_map (λ x. IsHeld n next (row_after (shares_of mine x) x).row) (λ x. IsHeld n next x.row) (λ x. row_after (shares_of mine x) x) (λ x p. p) sides.own own
+
 pub meet_sound : (n : ℕ) (orders : List Order) (taker : Priced) (sides : Sides) → IsHeld n orders taker.row → AllByRecursion (λ y. IsSameOrDiffers taker.row y.row) sides.own → IsNew taker.row sides.others → AreSound n orders sides.own sides.others
     → AreSound n (orders_after_all (fills_of taker (takes_of taker sides.others)) orders) (rows_after (record { contra = taker; shares = total_of (takes_of taker sides.others) } ∷ []) sides.own) (rows_after (takes_of taker sides.others) sides.others)
 unfolding rows_after
 meet_sound n orders taker sides h same fresh a =
     let takes : List Take = takes_of taker sides.others in
     let fills : List Fill = fills_of taker takes in
-    let next : List Order = orders_after_all fills orders in
     let mine : List Take = record { contra = taker; shares = total_of takes } ∷ [] in
-    let both = all_both (λ x. IsLiveRow n orders x.row) (λ x. IsNew x.row sides.others) (λ x. IsHeld n orders x.row × IsNew x.row sides.others) (λ x l d. (l.held, d)) sides.own a.own_live a.differ in
-    let own = all_both (λ x. IsHeld n orders x.row × IsNew x.row sides.others) (λ x. IsSameOrDiffers taker.row x.row) (λ x. IsHeld n next (row_after (shares_of mine x) x).row)
-    (λ x p d. own_held n orders taker sides.others h a.others_live a.others_differ fresh x p.0 d p.1) sides.own both same in
     record {
-      own_live = live_unfilled n next (map (λ x. row_after (shares_of mine x) x) sides.own) (all_map (λ x. IsHeld n next (row_after (shares_of mine x) x).row) (λ x. IsHeld n next x.row) (λ x. row_after (shares_of mine x) x) (λ x p. p) sides.own own);
+      own_live = live_unfilled n (orders_after_all fills orders) (map (λ x. row_after (shares_of mine x) x) sides.own) (own_rows_held n orders taker sides h same fresh a);
       others_live = others_live_after n orders taker sides.others h a.others_live a.others_differ fresh;
       own_differ = differ_after mine sides.own a.own_differ;
       others_differ = differ_after takes sides.others a.others_differ;
@@ -203,19 +214,37 @@ fills_more : (fills more : List Fill) (orders : List Order) → orders_after_all
 unfolding orders_after_all
 fills_more fills more orders = fold-append (λ before fill. orders_after fill before) orders fills more
 
-sweep_sound : (n : ℕ) (orders : List Order) (takers : List Priced) (sides : Sides) → AreTakers n (orders_after_all sides.fills orders) sides.own sides.others takers → AreSound n (orders_after_all sides.fills orders) sides.own sides.others
-    → AreSound n (orders_after_all (sweep takers sides).fills orders) (sweep takers sides).own (sweep takers sides).others
+-- what one taker's trades keep of orders and rows that agree
+abbrev pub MeetKeeps : ℕ → (List Order → List Priced → List Priced → Type 0) → Type 0
+MeetKeeps n P =
+    (orders : List Order) (taker : Priced) (sides : Sides)
+    → IsHeld n orders taker.row
+    → AllByRecursion (λ y. IsSameOrDiffers taker.row y.row) sides.own
+    → IsNew taker.row sides.others
+    → AreSound n orders sides.own sides.others
+    → P orders sides.own sides.others
+    → P (orders_after_all (fills_of taker (takes_of taker sides.others)) orders) (rows_after (record { contra = taker; shares = total_of (takes_of taker sides.others) } ∷ []) sides.own) (rows_after (takes_of taker sides.others) sides.others)
+
+-- all takers' trades keep it
+pub sweep_keeps : (n : ℕ) (P : List Order → List Priced → List Priced → Type 0) → MeetKeeps n P → (orders : List Order) (takers : List Priced) (sides : Sides)
+    → AreTakers n (orders_after_all sides.fills orders) sides.own sides.others takers → AreSound n (orders_after_all sides.fills orders) sides.own sides.others → P (orders_after_all sides.fills orders) sides.own sides.others
+    → P (orders_after_all (sweep takers sides).fills orders) (sweep takers sides).own (sweep takers sides).others
 unfolding sweep meet
-sweep_sound n orders [] sides t a = a
-sweep_sound n orders (taker ∷ takers) sides t a =
+sweep_keeps n P keeps orders [] sides t a p = p
+sweep_keeps n P keeps orders (taker ∷ takers) sides t a p =
     let now : List Order = orders_after_all sides.fills orders in
     let takes : List Take = takes_of taker sides.others in
     let next : Sides = meet taker sides in
     let more = fills_more sides.fills (fills_of taker takes) orders in
     let sound = subst (λ (os : List Order). AreSound n os next.own next.others) (sym more) (meet_sound n now taker sides t.held.0 t.same.0 t.fresh.0 a) in
     let taking = subst (λ (os : List Order). AreTakers n os next.own next.others takers) (sym more) (rest_taking n now taker takers sides a.others_live a.others_differ t) in
-    let P : Sides → Type 0 = λ s. AreSound n (orders_after_all s.fills orders) s.own s.others in
-    elim (crosses_any taker sides.others) as (λ b. P (cond b (sweep takers next) sides)) [ true ↦ sweep_sound n orders takers next taking sound | false ↦ a ]
+    let kept = subst (λ (os : List Order). P os next.own next.others) (sym more) (keeps now taker sides t.held.0 t.same.0 t.fresh.0 a p) in
+    let Q : Sides → Type 0 = λ s. P (orders_after_all s.fills orders) s.own s.others in
+    elim (crosses_any taker sides.others) as (λ b. Q (cond b (sweep takers next) sides)) [ true ↦ sweep_keeps n P keeps orders takers next taking sound kept | false ↦ p ]
+
+pub sweep_sound : (n : ℕ) (orders : List Order) (takers : List Priced) (sides : Sides) → AreTakers n (orders_after_all sides.fills orders) sides.own sides.others takers → AreSound n (orders_after_all sides.fills orders) sides.own sides.others
+    → AreSound n (orders_after_all (sweep takers sides).fills orders) (sweep takers sides).own (sweep takers sides).others
+sweep_sound n orders takers sides t a = sweep_keeps n (AreSound n) (λ os taker s h same fresh b p. meet_sound n os taker s h same fresh b) orders takers sides t a a
 
 pub turned : (n : ℕ) (orders : List Order) (own others : List Priced) → AreSound n orders own others → AreSound n orders others own
 turned n orders own others a =
@@ -229,7 +258,7 @@ turned n orders own others a =
     }
 
 -- the rows of a side in priority order are takers
-takers_of : (n : ℕ) (orders : List Order) (own others : List Priced) → AreSound n orders own others → AreTakers n orders own others (in_priority own)
+pub takers_of : (n : ℕ) (orders : List Order) (own others : List Priced) → AreSound n orders own others → AreTakers n orders own others (in_priority own)
 takers_of n orders own others a =
     record {
       held = in_priority_all (λ x. IsHeld n orders x.row) own (all_weaken (λ x. IsLiveRow n orders x.row) (λ x. IsHeld n orders x.row) (λ x l. l.held) own a.own_live);

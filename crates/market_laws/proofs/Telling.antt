@@ -22,7 +22,7 @@ use Rattle.eager_meaning.specs.Step.{reports_from}
 use Rattle.market_laws.specs.Placed.{side_at, opposite}
 use Rattle.market_laws.specs.Trading.{shares_if, shares_on, shares_traded, IsPricedWithin}
 use Rattle.market_laws.proofs.Siding.{sides_after}
-use Rattle.market_laws.proofs.Lists.{all_found, all_flat}
+use Rattle.market_laws.specs.ListLaws.{all_found, all_flat}
 use Rattle.market_laws.proofs.Meeting.{IsFairFill}
 
 -- the shares of a side that notices tell

@@ -1,7 +1,15 @@
+pub mod Apart
+pub mod Fewer
 pub mod Fitting
 pub mod Histories
+pub mod Ids
+pub mod ListLaws
+pub mod Names
 pub mod Orders
 pub mod Placed
 pub mod Replies
+pub mod Reports
 pub mod Sound
+pub mod Standing
 pub mod Trading
+pub mod WalkLaws

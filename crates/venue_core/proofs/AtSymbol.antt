@@ -1,5 +1,5 @@
 -- The seat and the gate of a symbol.
-use Rattle.std.proofs.Common.{◌≡◌, ℕ, ◌<◌, List, map, length, get_or, sym, ap, ◌∙◌, subst, arith, Some, slice_get}
+use Rattle.std.proofs.Common.{◌≡◌, ℕ, ◌<◌, List, map, length, get_or, sym, ap, ◌∙◌, arith, Some, slice_get}
 use Rattle.std.proofs.lemmas.List.{length-map}
 use Rattle.turn_gate.specs.Seats.{GateId, SeatState}
 use Rattle.venue_core.proofs.Places.{get_read, get_map}

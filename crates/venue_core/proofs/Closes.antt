@@ -1,7 +1,8 @@
 -- One gate after another is made, or closed.
-use Rattle.std.proofs.Common.{◌≡◌, ℕ, zero, suc, ◌+◌, List, [], ◌∷◌, ◌++◌, map, length, sym, refl, ap, ◌∙◌, subst, arith, append_assoc}
-use Rattle.std.specs.List.{AllZip}
+use Rattle.std.proofs.Common.{◌≡◌, ℕ, List, [], ◌∷◌, ◌++◌, map, length, sym, ap, ◌∙◌, subst, arith, append_assoc}
+use Rattle.std.specs.List.{All, AllZip}
 use Rattle.std.proofs.lemmas.List.{map-append, append-nil}
+use Rattle.std.proofs.lemmas.List.Elements.{All-nil, All-cons, All-head, All-tail}
 
 module _ {A B : Type 0} where
   pub zip_push : (R : A → B → Type 0) (xs : List A) (ys : List B) (x : A) (y : B) → AllZip R xs ys → R x y → AllZip R (xs ++ x ∷ []) (ys ++ y ∷ [])
@@ -40,3 +41,13 @@ pub reads_more_so : {A C : Type 0} (f : A → C) (xs now : List A) (cs grown_cs 
     → map f xs ≡ cs → now ≡ xs ++ x ∷ [] → grown_cs ≡ cs ++ c ∷ [] → f x ≡ c → map f now ≡ grown_cs
 reads_more_so f xs now cs grown_cs x c same grown grown_too one =
     ap (map f) grown ∙ (map-append f xs (x ∷ []) ∙ ((λ k. same k ++ one k ∷ []) ∙ sym grown_too))
+
+-- what holds of a number of each element of one list holds of the same numbers of the other one
+pub holds_of_each : {A B : Type 0} (P : ℕ → Type 0) (f : A → ℕ) (h : B → ℕ) (xs : List A) (ys : List B)
+    → map f xs ≡ map h ys → All (λ (y : B). P (h y)) ys → All (λ (x : A). P (f x)) xs
+holds_of_each {A} P f h [] ys same all = All-nil (λ (x : A). P (f x))
+holds_of_each P f h (x ∷ xs) [] same all = absurd (cc)
+holds_of_each {A} {B} P f h (x ∷ xs) (y ∷ ys) same all =
+    let one : h y ≡ f x = (cc) in
+    let rest : map f xs ≡ map h ys = (cc) in
+    All-cons (λ (x : A). P (f x)) x xs (subst P one (All-head (λ (y : B). P (h y)) y ys all)) (holds_of_each P f h xs ys rest (All-tail (λ (y : B). P (h y)) y ys all))

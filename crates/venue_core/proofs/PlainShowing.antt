@@ -1,10 +1,12 @@
 -- What a floor over books shows after one book was given a command.
-use Rattle.std.proofs.Common.{◌≡◌, ◌≢◌, ℕ, zero, suc, ◌+◌, ◌<◌, ◌≤◌, Bool, List, [], ◌∷◌, ◌++◌, map, length, set, get_or, sym, refl, ap, ◌∙◌, subst, arith, append_assoc, length-append, Option, None, Some, Result, IfOk, IfErr, OnOk, OnErr, slice_get, ℤ}
+use Rattle.std.proofs.Common.{◌≡◌, ◌≢◌, ℕ, zero, suc, ◌+◌, ◌≤◌, Bool, List, [], ◌∷◌, ◌++◌, map, length, get_or, sym, refl, ap, ◌∙◌, subst, arith, length-append, Option, None, Some, Result, IfOk, IfErr, OnOk, OnErr, slice_get, ℤ}
 use Rattle.std.specs.List.{All, range_with_len}
 use Rattle.std.specs.Prelude.{IfSome}
+use mathlib.Core.Logic.{dite}
+use native.Mathlib.Decide.{ℕ_discrete}
 use Rattle.std.proofs.lemmas.List.{append-nil}
 use Rattle.std.proofs.lemmas.List.Elements.{All-set}
-use Rattle.venue_words.specs.Floors.{FloorMark, Setup, SymbolView, TurnsRose, TurnsKept, Records, AddsNone, CostsAtMost, CostsNothing}
+use Rattle.venue_words.specs.Floors.{Setup, SymbolView, TurnsRose, TurnsKept, Records, AddsNone, CostsAtMost, CostsNothing}
 use Rattle.venue_words.specs.Journals.{StartsWith, event, IfFull}
 use Rattle.venue_words.specs.declared.command.Command.{Command}
 use Rattle.venue_words.specs.declared.command.Event.{Event}
@@ -137,3 +139,37 @@ module _ {V : Type 0} (journal_of : V → List Event) (limit_of setting_of : V �
       (err_both result (journal_of s.new ≡ journal_of s.old) (CostsNothing (step_limit (setting_of s.old)) (journal_of s.old) (event (length (journal_of s.old) + 1) feed moment command) from to)
       (CostsNothing (step_limit (setting_of s.old)) (journal_of s.new) (event (length (journal_of s.new) + 1) feed moment command) from to)
       (λ e h. subst (λ (es : List Event). CostsNothing (step_limit (setting_of s.old)) es (event (length es + 1) feed moment command) from to) (sym e) h) s.err s.idle))
+
+  -- the same, of the venue before the call
+  module _ (venue : PlainState V) (view_is : Was ≡ venue) where
+    pub floor_mark : plain_mark limit_of setting_of Is ≡ plain_mark limit_of setting_of venue
+    floor_mark = plain_marked ∙ ap (plain_mark limit_of setting_of) view_is
+
+    pub floor_others : (other : ℕ) → other ≢ i → Show (slice_get after other) ≡ Show (slice_get venue.books other)
+    floor_others = subst (λ (v : PlainState V). (other : ℕ) → other ≢ i → Show (slice_get after other) ≡ Show (slice_get v.books other)) view_is plain_others
+
+    pub floor_reports : ((n : ℕ) (xs ys : List Event) → StartsWith (r n (xs ++ ys)) (r n xs)) → StartsWith (Show (slice_get after i)).reports (Show (slice_get venue.books i)).reports
+    floor_reports grows = subst (λ (v : PlainState V). StartsWith (Show (slice_get after i)).reports (Show (slice_get v.books i)).reports) view_is (plain_grown grows)
+
+    pub floor_records : IfOk result (λ n. Records (Show (slice_get venue.books i)) (Show (slice_get after i)) n feed moment command)
+    floor_records = subst (λ (v : PlainState V). IfOk result (λ n. Records (Show (slice_get v.books i)) (Show (slice_get after i)) n feed moment command)) view_is plain_records
+
+    pub floor_room : IfOk result (λ n. n ≤ get_or (map limit_of venue.books) i 0)
+    floor_room = subst (λ (v : PlainState V). IfOk result (λ n. n ≤ get_or (map limit_of v.books) i 0)) view_is plain_room
+
+    pub floor_err : OnErr result (AddsNone (Show (slice_get venue.books i)) (Show (slice_get after i)))
+    floor_err = subst (λ (v : PlainState V). OnErr result (AddsNone (Show (slice_get v.books i)) (Show (slice_get after i)))) view_is plain_adds_none
+
+    pub floor_full : IfErr result (IfFull (λ found. (found ≡ length (Show (slice_get after i)).journal) × (found ≡ get_or (map limit_of venue.books) i 0)))
+    floor_full = subst (λ (v : PlainState V). IfErr result (IfFull (λ found. (found ≡ length (Show (slice_get after i)).journal) × (found ≡ get_or (map limit_of v.books) i 0)))) view_is plain_full
+
+    pub floor_steps : IfOk result (λ n. CostsAtMost (step_limit (setting_in (plain_mark limit_of setting_of venue) i)) (Show (slice_get after i)).journal (event n feed moment command) from to)
+    floor_steps = subst (λ (v : PlainState V). IfOk result (λ n. CostsAtMost (step_limit (setting_in (plain_mark limit_of setting_of v) i)) (Show (slice_get after i)).journal (event n feed moment command) from to)) view_is plain_steps
+
+    pub floor_idle : OnErr result (CostsNothing (step_limit (setting_in (plain_mark limit_of setting_of venue) i)) (Show (slice_get after i)).journal (event (length (Show (slice_get after i)).journal + 1) feed moment command) from to)
+    floor_idle = subst (λ (v : PlainState V). OnErr result (CostsNothing (step_limit (setting_in (plain_mark limit_of setting_of v) i)) (Show (slice_get after i)).journal (event (length (Show (slice_get after i)).journal + 1) feed moment command) from to)) view_is plain_idle
+
+    pub floor_kept : OnErr result ((other : ℕ) → Show (slice_get after other) ≡ Show (slice_get venue.books other))
+    floor_kept = subst (λ (v : PlainState V). OnErr result ((other : ℕ) → Show (slice_get after other) ≡ Show (slice_get v.books other))) view_is
+        (map_on_err result (Show (slice_get after i) ≡ Show (slice_get before i)) ((other : ℕ) → Show (slice_get after other) ≡ Show (slice_get before other))
+        (λ same other. dite (ℕ_discrete other i) (λ is. subst (λ (k : ℕ). Show (slice_get after k) ≡ Show (slice_get before k)) (sym is) same) (λ n. plain_others other n)) plain_kept)

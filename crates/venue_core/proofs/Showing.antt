@@ -1,6 +1,6 @@
 -- What a floor over seats shows after one seat has passed a turn.
-use Rattle.std.proofs.Common.{◌≡◌, ◌≢◌, ℕ, ◌+◌, ◌≤◌, List, [], ◌∷◌, ◌++◌, map, length, get_or, sym, refl, ap, ◌∙◌, subst, arith, append_assoc, Option, Some, Result, IfOk, IfErr, OnOk, OnErr, slice_get, ℤ}
-use Rattle.venue_words.specs.Floors.{FloorMark, SymbolView, TurnsRose, TurnsKept, Records, AddsNone, CostsAtMost, CostsNothing}
+use Rattle.std.proofs.Common.{◌≡◌, ◌≢◌, ℕ, ◌+◌, ◌≤◌, List, [], ◌∷◌, ◌++◌, map, length, get_or, sym, refl, ap, ◌∙◌, subst, arith, append_assoc, Option, Some, Result, IfOk, IfErr, OnErr, slice_get, ℤ}
+use Rattle.venue_words.specs.Floors.{SymbolView, TurnsRose, TurnsKept, Records, AddsNone, CostsAtMost, CostsNothing}
 use Rattle.venue_words.specs.Journals.{StartsWith, event, IfFull, reports_of}
 use Rattle.venue_words.specs.declared.command.Command.{Command}
 use Rattle.venue_words.specs.declared.command.Event.{Event}
@@ -13,7 +13,7 @@ use Rattle.venue_core.specs.Marks.{seat_mark, mark_of, setting_in, first_number}
 use Rattle.venue_core.specs.Shown.{shown_by_seat}
 use Rattle.venue_core.specs.Turns.{PassesTurn, Submits, Looks}
 use Rattle.venue_core.specs.Venues.{VenueId, setup_in, AreSeatsOf}
-use Rattle.venue_core.proofs.Answered.{map_ok, ok_both, map_err, on_ok, on_err, map_on_err, err_both, either_way}
+use Rattle.venue_core.proofs.Answered.{map_ok, ok_both, err_both, either_way}
 use Rattle.venue_core.proofs.Places.{map_same, set_here, set_elsewhere, index_map, get_map}
 
 mark_same : (p q : SeatState) → q.gate ≡ p.gate → q.part ≡ p.part → seat_mark q ≡ seat_mark p

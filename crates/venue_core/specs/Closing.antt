@@ -7,7 +7,9 @@ use Rattle.venue_words.specs.declared.command.Event.{Event}
 
 -- the book of the seat's gate: its journal begins with all that the seat has seen, and the seat's own numbers are all
 -- numbers of its events
-pub record IsBookOf {V : Type 0} (journal_of : V → List Event) (limit_of setting_of : V → ℕ) (seat : SeatState) (book : V) : Type 0 where
+pub record IsBookOf
+    {V : Type 0} (journal_of : V → List Event) (limit_of setting_of : V → ℕ)
+    (seat : SeatState) (book : V) : Type 0 where
   pub limit : limit_of book ≡ seat.gate.limit
   pub setting : setting_of book ≡ seat.gate.setting
   pub seen : StartsWith (journal_of book) seat.seen

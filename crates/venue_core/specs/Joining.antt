@@ -1,5 +1,6 @@
 -- How seats are split and joined.
-use Rattle.std.specs.Prelude.{◌≡◌, ◌+◌, ◌-◌, List, [], ◌∷◌, length}
+use Rattle.std.specs.Prelude.{◌≡◌, ℕ, ◌+◌, ◌-◌, List, [], ◌∷◌, length}
+use Rattle.std.specs.List.{All}
 use Rattle.turn_gate.specs.Numbers.{IncreasesWithin, merge_of}
 use Rattle.turn_gate.specs.Rule.{whole}
 use Rattle.turn_gate.specs.Seats.{SeatState}
@@ -11,6 +12,10 @@ pub record IsFirstSeat (seat : SeatState) : Type 0 where
   pub seen : seat.seen ≡ []
   pub mine : seat.mine ≡ []
   pub part : seat.part ≡ whole
+
+-- each seat has so many parts of its gate
+abbrev pub HaveParts : ℕ → List SeatState → Type 0
+HaveParts parts seats = All (λ seat. seat.part ≡ parts) seats
 
 -- a seat has seen all that it had seen before, or that another one had
 abbrev pub HasSeenNoLess : SeatState → SeatState → Type 0

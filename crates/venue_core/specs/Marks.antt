@@ -1,6 +1,6 @@
 -- The marks of floors. In a mark each symbol has a list of numbers that begins with the setting of its book.
 use Rattle.std.specs.Prelude.{ℕ, List, [], ◌∷◌, map, slice_get, Option, Some, None}
-use Rattle.turn_gate.specs.Seats.{GateId, SeatState}
+use Rattle.turn_gate.specs.Seats.{SeatState}
 use Rattle.venue_words.specs.Floors.{FloorMark}
 use Rattle.venue_core.specs.Venues.{VenueId, setup_in, PlainState, plain_setup}
 

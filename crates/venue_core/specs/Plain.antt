@@ -1,12 +1,15 @@
 -- What a call on one symbol leaves of the books of a venue for one thread.
-use Rattle.std.specs.Prelude.{◌≡◌, ℕ, ◌+◌, ◌≤◌, ℤ, List, [], ◌∷◌, ◌++◌, length, slice_get, slice_set, Option, Some, Result, IfOk, IfErr, OnErr, IfSome}
+use Rattle.std.specs.Prelude.{◌≡◌, ℕ, ◌+◌, ◌≤◌, ℤ, List, [], ◌∷◌, ◌++◌, length, slice_get, slice_set, Option, Some}
+use Rattle.std.specs.Prelude.{Result, IfOk, IfErr, OnErr, IfSome}
 use Rattle.venue_words.specs.Floors.{CostsNothing}
 use Rattle.venue_words.specs.Journals.{IfFull, event}
 use Rattle.venue_words.specs.declared.command.Command.{Command}
 use Rattle.venue_words.specs.declared.command.Event.{Event}
 use Rattle.venue_words.specs.declared.refusal.FloorRefusal.{FloorRefusal}
 
-module _ {V : Type 0} (journal_of : V → List Event) (limit_of setting_of : V → ℕ) (step_limit : ℕ → List Event → Event → Option ℕ) where
+module _
+    {V : Type 0} (journal_of : V → List Event) (limit_of setting_of : V → ℕ)
+    (step_limit : ℕ → List Event → Event → Option ℕ) where
   -- the symbol's book was given the command, and the others are as they were
   pub record SubmitsTo
       (before after : List V)

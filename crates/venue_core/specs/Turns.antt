@@ -1,5 +1,6 @@
 -- What a call on one symbol leaves of the seats.
-use Rattle.std.specs.Prelude.{◌≡◌, ℕ, ◌+◌, ◌≤◌, ℤ, List, [], ◌∷◌, ◌++◌, length, slice_get, slice_set, Option, Some, Result, IfOk, IfErr, OnErr}
+use Rattle.std.specs.Prelude.{◌≡◌, ℕ, ◌+◌, ◌≤◌, ℤ, List, [], ◌∷◌, ◌++◌, length, slice_get, slice_set, Option, Some}
+use Rattle.std.specs.Prelude.{Result, IfOk, IfErr, OnErr}
 use Rattle.turn_gate.specs.Seats.{SeatState, Extends}
 use Rattle.venue_words.specs.Floors.{CostsAtMost, CostsNothing}
 use Rattle.venue_words.specs.Journals.{StartsWith, IfFull, event, reports_of}

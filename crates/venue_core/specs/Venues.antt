@@ -25,7 +25,8 @@ setup_in venue = record {
   ticks = venue.ticks;
 }
 
--- a venue for one thread: how many members and markets it has, the tick of each symbol, and its books, one for each symbol
+-- a venue for one thread: how many members and markets it has, the tick of each symbol, and its books, one for each
+-- symbol
 pub record PlainState (V : Type 0) : Type 0 where
   pub members : ℕ
   pub markets : ℕ

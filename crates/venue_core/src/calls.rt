@@ -6,7 +6,8 @@ ghost use Rattle.venue_words.specs.Conditions.{fits_limits};
 ghost use Rattle.venue_words.specs.Floors.{is_configured};
 ghost use Rattle.turn_gate.specs.Rule.{whole};
 ghost use Rattle.venue_core.specs.Closing.{IsBookOf};
-ghost use Rattle.venue_core.specs.Joining.{IsFirstSeat, HasSeenNoLess, HasOwnNumbers, after_split, split_off, all_joined};
+ghost use Rattle.venue_core.specs.Joining.{IsFirstSeat, HaveParts, HasSeenNoLess, HasOwnNumbers};
+ghost use Rattle.venue_core.specs.Joining.{after_split, split_off, all_joined};
 
 use std::alloc::Global;
 use turn_gate::{Gate, Seat};
@@ -82,7 +83,7 @@ pub(crate) fn close<V: Held + Drop>(
     mut books: Vec<V>,
 ) -> Vec<V>
     requires gates { map (λ seat. seat.gate) seats.items ≡ gates.items }
-    requires parts { All (λ seat. seat.part ≡ whole) seats.items }
+    requires parts { HaveParts whole seats.items }
     requires empty { books.items ≡ [] }
     requires room { length gates.items ≤ vec_capacity books }
     ensures { AllZip (IsBookOf V.journal V.limit V.setting) seats.items result.items }

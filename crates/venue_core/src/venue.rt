@@ -4,7 +4,8 @@ ghost use Rattle.std.specs.List.{All, AllZip};
 ghost use Rattle.venue_words.specs.Floors.{setup_of};
 ghost use Rattle.turn_gate.specs.Rule.{whole};
 ghost use Rattle.venue_core.specs.Closing.{IsBookOf};
-ghost use Rattle.venue_core.specs.Joining.{IsFirstSeat, HasSeenNoLess, HasOwnNumbers, after_split, split_off, all_joined};
+ghost use Rattle.venue_core.specs.Joining.{IsFirstSeat, HaveParts, HasSeenNoLess, HasOwnNumbers};
+ghost use Rattle.venue_core.specs.Joining.{after_split, split_off, all_joined};
 ghost use Rattle.venue_core.specs.Venues.{AreSeatsOf, TakesConfigured, setup_in};
 
 use crate::calls;
@@ -33,12 +34,13 @@ impl<V: Held> Model for Venue<V> {
     ghost view = { λ venue. venue_id venue.members venue.markets venue.ticks.items venue.gates.items };
 
     ghost invariant = { λ venue. All (λ gate. TakesConfigured V.takes
-        (setup_in (venue_id venue.members venue.markets venue.ticks.items venue.gates.items)) gate.setting) venue.gates.items };
+        (setup_in (venue_id venue.members venue.markets venue.ticks.items venue.gates.items)) gate.setting)
+        venue.gates.items };
 }
 
 impl<V: Held + Drop> Venue<V> {
-    /// Makes a venue of books, one for each symbol of the config, in its order, and the venue's seats, which
-    /// have all parts of the gates.
+    /// Makes a venue of books without events, one for each symbol of the config, in its order, and the venue's
+    /// seats, which have all parts of the gates. Where memory is wanting, the books are dropped.
     pub fn from_books(
         alloc: Global,
         config: &Config,
@@ -70,6 +72,8 @@ impl<V: Held + Drop> Venue<V> {
     pub fn split(&self, alloc: Global, seats: &mut Seats) -> Result<Seats, NoMemory>
         requires seats { AreSeatsOf self.now seats.old }
         requires parts { All (λ seat. 1 < seat.part) seats.old }
+        ensures seats { AreSeatsOf self.now seats.new }
+        ensures new_seats { IfOk result (λ new. AreSeatsOf self.now new) }
         ensures old { IfOk result (λ new. seats.new ≡ map after_split seats.old) }
         ensures new { IfOk result (λ new. new ≡ map split_off seats.old) }
         ensures err { OnErr result (seats.new ≡ seats.old) }
@@ -82,7 +86,8 @@ impl<V: Held + Drop> Venue<V> {
     pub fn join(&self, seats: &mut Seats, other: Seats)
         requires seats { AreSeatsOf self.now seats.old }
         requires other_seats { AreSeatsOf self.now other }
-        ensures seats { seats.new ≡ all_joined seats.old other }
+        ensures seats { AreSeatsOf self.now seats.new }
+        ensures joined { seats.new ≡ all_joined seats.old other }
 
         // The two had seen beginnings of one history, and no event was an own one of both.
         ensures seen { AllZip HasSeenNoLess seats.old seats.new }
@@ -95,13 +100,9 @@ impl<V: Held + Drop> Venue<V> {
     /// Ends the venue and hands its books back, in the order of the symbols. The seats have all parts, so all
     /// seats that were split off were joined back. The memory is taken first, and a refusal hands venue and
     /// seats back as they were.
-    pub fn close(
-        self,
-        alloc: Global,
-        seats: Seats,
-    ) -> Result<Vec<V>, (Venue<V>, Seats, NoMemory)>
+    pub fn close(self, alloc: Global, seats: Seats) -> Result<Vec<V>, (Venue<V>, Seats, NoMemory)>
         requires seats { AreSeatsOf self seats }
-        requires parts { All (λ seat. seat.part ≡ whole) seats }
+        requires parts { HaveParts whole seats }
         ensures books { IfOk result (λ books. AllZip (IsBookOf V.journal V.limit V.setting) seats books.items) }
         ensures venue { IfErr result (λ refused. refused.0 ≡ self) }
         ensures seats { IfErr result (λ refused. refused.1 ≡ seats) }

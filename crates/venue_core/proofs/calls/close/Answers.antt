@@ -1,5 +1,5 @@
 -- The seat that is next is that of the gate that is next.
-use Rattle.std.proofs.Common.{◌≡◌, ◌+◌, List, [], ◌∷◌, map, length, sym, ap, ◌∙◌, subst, arith}
+use Rattle.std.proofs.Common.{◌≡◌, ◌∷◌, map, length, sym, ap, ◌∙◌, subst, arith}
 use Rattle.std.specs.List.{All}
 use Rattle.std.proofs.lemmas.List.Elements.{All-head, All-tail}
 use Rattle.turn_gate.specs.Rule.{whole}
@@ -21,7 +21,7 @@ loop-gate-preserved g c =
     let seats = c.in-Some-next.ensures.items in
     let gates = c.in-Some.ensures.steps.0 in
     let are : (c.in-Some-next.seat.gate ∷ map (λ (seat : SeatState). seat.gate) c.next-in-loop-gate.new.self.rest.items) ≡ c.in-Some.gate ∷ c.next.new.self.rest.items
-        = sym (ap (map (λ (seat : SeatState). seat.gate)) seats) ∙ (inv.1 ∙ gates) in
+    = sym (ap (map (λ (seat : SeatState). seat.gate)) seats) ∙ (inv.1 ∙ gates) in
     let gate : c.in-Some-next.seat.gate ≡ c.in-Some.gate = (cc) in
     let e = c.close.ensures in
     let push = c.push_reserved.ensures in (

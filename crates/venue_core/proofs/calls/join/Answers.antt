@@ -1,11 +1,10 @@
 -- The seat that was joined was the first of those that are left.
-use Rattle.std.proofs.Common.{◌≡◌, ℕ, ◌++◌, ◌∷◌, [], length, set, sym, ap, ◌∙◌, refl, append_assoc, length-append, arith, List, subst}
-use Rattle.std.specs.List.{All, AllZip}
-use Rattle.std.proofs.lemmas.List.{append-nil}
+use Rattle.std.proofs.Common.{◌++◌, ◌∷◌, [], length, sym, ap, ◌∙◌, refl, append_assoc, length-append, arith, List, subst}
+use Rattle.std.specs.List.{AllZip}
 use Rattle.turn_gate.specs.Seats.{SeatState}
-use Rattle.venue_core.specs.Joining.{HasSeenNoLess, HasOwnNumbers, all_joined}
+use Rattle.venue_core.specs.Joining.{HasSeenNoLess, all_joined}
 use Rattle.venue_core.proofs.AtSymbol.{seat_count}
-use Rattle.venue_core.proofs.Joins.{AreJoined, IsNext, next_within, gates_there, joins_next, are_all_joined, begin_with, begin_with_others, own_numbers, none_left}
+use Rattle.venue_core.proofs.Joins.{IsNext, next_within, gates_there, joins_next, are_all_joined, begin_with, begin_with_others, own_numbers, none_left}
 use Rattle.venue_core.proofs.calls.join.Goals as goal
 
 pub loop-one-init : goal.loop-one-init
@@ -65,7 +64,7 @@ returns-clause-other_seen g c =
     let m = seat_count c.args.gates.now.items c.args.seats.now.items c.requires.gates in
     let n = seat_count c.args.gates.now.items c.args.other.items c.requires.other_gates in
     subst (λ (ps : List SeatState). AllZip HasSeenNoLess ps c.loop-one.seats.items) (sym all)
-        (begin_with_others c.args.seats.now.items c.loop-one.yielded c.loop-one.seats.items inv.0 (omega arith))
+    (begin_with_others c.args.seats.now.items c.loop-one.yielded c.loop-one.seats.items inv.0 (omega arith))
 
 pub returns-clause-mine : goal.returns-clause-mine
 returns-clause-mine g c =

@@ -1,5 +1,5 @@
 -- The seat at i is split next.
-use Rattle.std.proofs.Common.{◌≡◌, ◌<◌, [], ◌∷◌, ◌++◌, set, ◌∙◌, arith}
+use Rattle.std.proofs.Common.{◌<◌, [], ◌∷◌, ◌++◌, set, ◌∙◌, arith}
 use Rattle.turn_gate.specs.Seats.{SeatState}
 use Rattle.venue_core.proofs.AtSymbol.{seat_count}
 use Rattle.venue_core.proofs.Places.{holds_at}
@@ -12,18 +12,18 @@ loop-i-init g c = let e = c.in_ok-new.ensures in let n = c.len.ensures in (none_
 pub split-other-requires-clause-gate : goal.split-other-requires-clause-gate
 split-other-requires-clause-gate g c =
     (found c.loop-i.i c.args.gates.now.items c.args.seats.now.items c.loop-i.seats.items c.index_mut-seat.result.now c.index.result.now c.requires.gates c.loop-i.invariant.0
-        (let t = c.loop-i-test.true in let e = c.len-i-end.ensures in omega arith) c.index_mut-seat.ensures.value c.index.ensures).1
+    (let t = c.loop-i-test.true in let e = c.len-i-end.ensures in omega arith) c.index_mut-seat.ensures.value c.index.ensures).1
 
 pub split-other-requires-clause-part : goal.split-other-requires-clause-part
 split-other-requires-clause-part g c =
     let at = found c.loop-i.i c.args.gates.now.items c.args.seats.now.items c.loop-i.seats.items c.index_mut-seat.result.now c.index.result.now c.requires.gates c.loop-i.invariant.0
-        (let t = c.loop-i-test.true in let e = c.len-i-end.ensures in omega arith) c.index_mut-seat.ensures.value c.index.ensures in
+    (let t = c.loop-i-test.true in let e = c.len-i-end.ensures in omega arith) c.index_mut-seat.ensures.value c.index.ensures in
     holds_at (λ (seat : SeatState). 1 < seat.part) c.args.seats.now.items c.loop-i.i c.index_mut-seat.result.now at.0 c.requires.parts
 
 pub loop-i-preserved : goal.loop-i-preserved
 loop-i-preserved g c =
     let at = found c.loop-i.i c.args.gates.now.items c.args.seats.now.items c.loop-i.seats.items c.index_mut-seat.result.now c.index.result.now c.requires.gates c.loop-i.invariant.0
-        (let t = c.loop-i-test.true in let e = c.len-i-end.ensures in omega arith) c.index_mut-seat.ensures.value c.index.ensures in
+    (let t = c.loop-i-test.true in let e = c.len-i-end.ensures in omega arith) c.index_mut-seat.ensures.value c.index.ensures in
     let inv = c.loop-i.invariant in
     let push = c.push_reserved.ensures in (
       (λ k. set (inv.0 k) c.loop-i.i (c.split-other.ensures.old k)) ∙ splits_next c.loop-i.i c.args.seats.now.items c.index_mut-seat.result.now at.0,

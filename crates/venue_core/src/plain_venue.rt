@@ -32,12 +32,14 @@ impl<V: Held> Model for PlainVenue<V> {
     ghost view = { λ venue. plain_state venue.members venue.markets venue.ticks.items venue.books.items };
 
     ghost invariant = { λ venue. All (λ book. TakesConfigured V.takes
-        (plain_setup V.limit (plain_state venue.members venue.markets venue.ticks.items venue.books.items)) (V.setting book))
+        (plain_setup V.limit (plain_state venue.members venue.markets venue.ticks.items venue.books.items))
+        (V.setting book))
         venue.books.items };
 }
 
 impl<V: Held + Drop> PlainVenue<V> {
-    /// Makes a venue of books, one for each symbol of the config, in its order.
+    /// Makes a venue of books, one for each symbol of the config, in its order. Where memory is wanting, the
+    /// books are dropped.
     pub fn from_books(
         alloc: Global,
         config: &Config,
@@ -84,16 +86,19 @@ fn submit_to<V: Held, L: Ledger>(
 }
 
 impl<V: Held> Floor for PlainVenue<V> {
-    ghost use Rattle.std.specs.Prelude.{slice_get};
+    ghost use Rattle.std.specs.Prelude.{◌≢◌, ℕ, ◌+◌, ◌≤◌, slice_index, IfErr, OnOk, OnErr};
+    ghost use Rattle.venue_words.specs.Floors.{TurnsRose, TurnsKept, Records, AddsNone, CostsAtMost, CostsNothing};
+    ghost use Rattle.venue_words.specs.Journals.{event, StartsWith, IfFull};
     ghost use Rattle.venue_core.specs.Marks.{plain_mark, setting_in};
-    ghost use Rattle.venue_core.specs.Shown.{shown_by_book};
+    ghost use Rattle.venue_core.specs.Shown.{shown_by_book, shown_of};
 
     ghost mark = { λ venue. plain_mark V.limit V.setting venue };
 
-    ghost at = { λ venue symbol. shown_by_book V.journal V.setting V.reports (slice_get venue.books symbol) };
+    ghost at = { λ venue symbol. shown_of V.journal V.setting V.reports venue symbol };
 
     ghost step_limit = { λ mark symbol. V.step_limit (setting_in mark symbol) };
 
+    /// As the trait says, and a refusal leaves all that is shown.
     fn submit<L: Ledger>(
         &mut self,
         symbol: u32,
@@ -101,7 +106,41 @@ impl<V: Held> Floor for PlainVenue<V> {
         moment: i64,
         command: Command,
         steps: &mut Steps<L>,
-    ) -> Result<u32, FloorRefusal> {
+    ) -> Result<u32, FloorRefusal>
+        requires symbol { symbol < length (plain_setup V.limit self.old).limits }
+        requires configured { is_configured (plain_setup V.limit self.old) command ≡ true }
+        requires limits { fits_limits command ≡ true }
+        ensures kept { OnErr result ((other : ℕ) → shown_of V.journal V.setting V.reports self.new other
+            ≡ shown_of V.journal V.setting V.reports self.old other) }
+
+        // What the trait says.
+        ensures mark { plain_mark V.limit V.setting self.new ≡ plain_mark V.limit V.setting self.old }
+        ensures others { (other : ℕ) → other ≢ symbol → shown_of V.journal V.setting V.reports self.new other
+            ≡ shown_of V.journal V.setting V.reports self.old other }
+        ensures reports { StartsWith (shown_of V.journal V.setting V.reports self.new symbol).reports
+            (shown_of V.journal V.setting V.reports self.old symbol).reports }
+        ensures records { IfOk result (λ number. Records (shown_of V.journal V.setting V.reports self.old symbol)
+            (shown_of V.journal V.setting V.reports self.new symbol) number feed moment command) }
+        ensures room { IfOk result (λ number. number ≤ slice_index (plain_setup V.limit self.old).limits symbol) }
+        ensures turns { OnOk result (TurnsRose (shown_of V.journal V.setting V.reports self.old symbol).turns
+            (shown_of V.journal V.setting V.reports self.new symbol).turns) }
+        ensures err { OnErr result (AddsNone (shown_of V.journal V.setting V.reports self.old symbol)
+            (shown_of V.journal V.setting V.reports self.new symbol)) }
+        ensures turns_kept { OnErr result (TurnsKept (shown_of V.journal V.setting V.reports self.old symbol).turns
+            (shown_of V.journal V.setting V.reports self.new symbol).turns) }
+        ensures full { IfErr result (IfFull (λ found.
+            (found ≡ length (shown_of V.journal V.setting V.reports self.new symbol).journal)
+            × (found ≡ slice_index (plain_setup V.limit self.old).limits symbol))) }
+        ensures steps { IfOk result (λ number. CostsAtMost
+            (V.step_limit (setting_in (plain_mark V.limit V.setting self.old) symbol))
+            (shown_of V.journal V.setting V.reports self.new symbol).journal
+            (event number feed moment command) steps.old steps.new) }
+        ensures idle { OnErr result (CostsNothing
+            (V.step_limit (setting_in (plain_mark V.limit V.setting self.old) symbol))
+            (shown_of V.journal V.setting V.reports self.new symbol).journal
+            (event (length (shown_of V.journal V.setting V.reports self.new symbol).journal + 1) feed moment command)
+            steps.old steps.new) }
+    {
         submit_to(&mut self.books, symbol, feed, moment, command, steps)
     }
 
