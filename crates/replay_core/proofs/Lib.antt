@@ -15,3 +15,5 @@ pub mod Turns
 pub mod Steps
 pub mod Going
 pub mod Outcomes
+pub mod Answering
+pub mod Settings

@@ -1,11 +1,9 @@
 //! The venue of books as a player's floor.
-ghost use Rattle.std.specs.Prelude.{slice_get};
-
 use crate::plain_floor::PlainFloor;
 use std::alloc::Global;
 use symbol_book::{Book, HashSeed};
 use venue_core::{PlainVenue, plain};
-use venue_words::{Config, NoMemory, Report};
+use venue_words::{Config, NoMemory};
 
 impl PlainFloor for PlainVenue<Book> {
     ghost use Rattle.std.specs.Prelude.{slice_get};
@@ -15,21 +13,5 @@ impl PlainFloor for PlainVenue<Book> {
 
     fn open(alloc: Global, config: &Config) -> Result<PlainVenue<Book>, NoMemory> {
         plain(alloc, HashSeed::fixed(), config)
-    }
-
-    fn events(&self, symbol: u32) -> u32 {
-        self.book(symbol).journal().len() as u32
-    }
-
-    fn reports(&self, symbol: u32) -> &[Report] {
-        self.book(symbol).reports()
-    }
-
-    fn resting(&self, symbol: u32) -> u32 {
-        self.book(symbol).resting()
-    }
-
-    fn groups(&self, symbol: u32) -> u32 {
-        self.book(symbol).groups()
     }
 }
