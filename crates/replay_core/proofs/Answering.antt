@@ -3,9 +3,11 @@ use Rattle.std.proofs.Common.{◌≡◌, ◌≢◌, ℕ, ◌⊎◌, List, Option
 use Rattle.std.specs.Prelude.{option_and_then}
 use Rattle.io_edge.specs.Files.{Files, file_named, HasFile}
 use Rattle.program_words.specs.Words.{remaining}
+use Rattle.program_words.specs.declared.WordFault.{WordFault}
+use Rattle.program_words.specs.declared.WordFault.TheVariants as word
 use Rattle.replay_core.specs.Causes.{form_of, script_named, script_told, bytes_named, LacksScript}
 use Rattle.replay_core.specs.Play.{script}
-use Rattle.replay_core.specs.Statuses.{Told, Yields}
+use Rattle.replay_core.specs.Statuses.{Told, Yields, refusal_of}
 use Rattle.replay_core.specs.Telling.{Seen, Outcome, Ran}
 use Rattle.replay_core.specs.declared.status.Status.{Status}
 use Rattle.replay_core.specs.declared.status.Status.TheVariants.{Done, BadWords, BadLine, LimitLine, ReadFault, WriteFault, NoMemory}
@@ -85,3 +87,47 @@ pub complete : (o : Option (List ℕ)) (old new : Seen) (left : Option (List ℕ
     → IfSome o (λ bytes. (script bytes).fault ≡ None → (result ≡ Done) ⊎ (result ≡ NoMemory))
 complete o old new left result h r w =
     if_some_map o _ _ (λ bytes x e. done_or_not bytes old.told new.told left result x.outcome e r w) h
+
+pub ran_after : (o : Option (List ℕ)) (old new : Seen) (left : Option (List ℕ)) (status result : Status) (rose : Type 0)
+    → IfSome o (λ bytes. Ran bytes old new left status) → Told status result rose → IfSome o (λ bytes. Ran bytes old new left result)
+ran_after o old new left status result rose h t = if_some_map o _ _ (λ bytes x. ran_told bytes old new left status result rose t x) h
+
+-- words that are refused
+pub ran_refused : (told : Option Files) (words : List (List ℕ)) (t : Seen) (left : Option (List ℕ)) (fault : WordFault)
+    → (fault ≡ word.BadWords → remaining words ≡ None) → IfSome (script_told told words) (λ bytes. Ran bytes t t left (refusal_of fault))
+ran_refused told words t left word.BadWords h = ran_unnamed told words _ (no_words words (h refl))
+ran_refused told words t left word.NoMemory h = ran_none told words t left NoMemory refl
+
+pub missing_refused : (told : Option Files) (words : List (List ℕ)) (fault : WordFault) (P : Type 0) → (fault ≡ word.BadWords → remaining words ≡ None)
+    → LacksScript told words → P → ((refusal_of fault ≡ ReadFault) ⊎ (refusal_of fault ≡ NoMemory)) × P
+missing_refused told words word.BadWords P h l p = absurd (lacks_unnamed told words (no_words words (h refl)) l)
+missing_refused told words word.NoMemory P h l p = (inr refl, p)
+
+pub words_refused : (words : List (List ℕ)) (fault : WordFault) → (fault ≡ word.BadWords → remaining words ≡ None)
+    → refusal_of fault ≡ BadWords → script_named words ≡ None
+words_refused words word.BadWords h e = no_words words (h refl)
+words_refused words word.NoMemory h e = absurd (cc)
+
+pub other_refused : (fault : WordFault) → (refusal_of fault ≡ BadWords) ⊎ (refusal_of fault ≡ NoMemory)
+other_refused word.BadWords = inl refl
+other_refused word.NoMemory = inr refl
+
+pub never_read : (fault : WordFault) → refusal_of fault ≢ ReadFault
+never_read word.BadWords e = cc
+never_read word.NoMemory e = cc
+
+pub never_write : (fault : WordFault) → refusal_of fault ≢ WriteFault
+never_write word.BadWords e = cc
+never_write word.NoMemory e = cc
+
+pub same_file : (told : Option Files) (words : List (List ℕ)) (name other : List ℕ) → script_named words ≡ Some name → script_named words ≡ Some other
+    → HasFile told other → HasFile told name
+same_file told words name other e f h = let same : other ≡ name = cc in subst (λ (n : List ℕ). HasFile told n) same h
+
+pub missing_told : (status result : Status) (rose P : Type 0) → Told status result rose
+    → ((status ≡ ReadFault) ⊎ (status ≡ NoMemory)) × P → ((result ≡ ReadFault) ⊎ (result ≡ NoMemory)) × P
+missing_told status result rose P t x = (elim x.0 [ inl e ↦ inl (rw e at t) | inr e ↦ inr (rw e at t) ], x.1)
+
+pub other_told : (status result : Status) (rose P : Type 0) → Told status result rose
+    → ((status ≡ BadWords) ⊎ (status ≡ NoMemory)) × P → Yields BadWords result rose × P
+other_told status result rose P t x = (elim x.0 [ inl e ↦ (rw e at t) | inr e ↦ inl (inr (rw e at t)) ], x.1)

@@ -83,6 +83,38 @@ fn play_named<F: PlainFloor, H: Shelf, K: Sink, L: Ledger>(
     }
 }
 
+/// Reads the words, and plays the script that they name.
+fn answer<F: PlainFloor, H: Shelf, K: Sink, L: Ledger>(
+    alloc: Global,
+    words: &[String],
+    shelf: &mut H,
+    out: &mut K,
+    steps: &mut Steps<L>,
+) -> Status
+    ensures ran { IfSome (script_told (H.told shelf.old) (texts words.now)) (λ bytes.
+        Ran bytes (seen (K.told out.old) steps.old) (seen (K.told out.new) steps.new) (H.left shelf.new) result) }
+    ensures words { result ≡ Status.BadWords → script_named (texts words.now) ≡ None }
+    ensures other { script_named (texts words.now) ≡ None →
+        ((result ≡ Status.BadWords) ⊎ (result ≡ Status.NoMemory)) × (K.told out.new ≡ K.told out.old) }
+    ensures read { result ≡ Status.ReadFault → Rose (H.faults shelf.old) (H.faults shelf.new) }
+    ensures write { result ≡ Status.WriteFault → Rose (K.faults out.old) (K.faults out.new) }
+    ensures sure { IsTrue (H.sure shelf.old) → (name : List ℕ) → script_named (texts words.now) ≡ Some name →
+        HasFile (H.told shelf.old) name → result ≢ Status.ReadFault }
+    ensures missing { LacksScript (H.told shelf.old) (texts words.now) →
+        ((result ≡ Status.ReadFault) ⊎ (result ≡ Status.NoMemory)) × (K.told out.new ≡ K.told out.old) }
+    ensures read_later { H.faults shelf.old ≤ H.faults shelf.new }
+    ensures write_later { K.faults out.old ≤ K.faults out.new }
+{
+    let read = match read_words(alloc, words) {
+        Ok(read) => read,
+        Err(fault) => return refusal_of(fault),
+    };
+    match script_word(read.as_slice()) {
+        Some(name) => play_named::<F, H, K, L>(alloc, name, shelf, out, steps),
+        None => Status::BadWords,
+    }
+}
+
 /// As `replay`, over any floor of one thread.
 pub fn replay_over<F: PlainFloor, H: Shelf, K: Sink, E: Sink, L: Ledger>(
     alloc: Global,
@@ -117,16 +149,8 @@ pub fn replay_over<F: PlainFloor, H: Shelf, K: Sink, E: Sink, L: Ledger>(
     ensures write_later { K.faults out.old ≤ K.faults out.new }
     ensures tell_later { E.faults err.old ≤ E.faults err.new }
 {
-    match read_words(alloc, words) {
-        Ok(read) => match script_word(read.as_slice()) {
-            Some(name) => {
-                let status = play_named::<F, H, K, L>(alloc, name, shelf, out, steps);
-                tell(alloc, status, err)
-            }
-            None => tell(alloc, Status::BadWords, err),
-        },
-        Err(fault) => tell(alloc, refusal_of(fault), err),
-    }
+    let status = answer::<F, H, K, L>(alloc, words, shelf, out, steps);
+    tell(alloc, status, err)
 }
 
 /// Plays the script that the words name: reads it from the shelf, puts its transcript to `out` line by line, and
