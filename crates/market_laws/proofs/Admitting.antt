@@ -27,9 +27,10 @@ use Rattle.eager_meaning.specs.Trades.{orders_after_all}
 use Rattle.eager_meaning.specs.Walk.{total_of}
 use Rattle.eager_meaning.specs.Entering.{Arrival, Entered, entered, enter, accepted_order, arrival_of_new, on_new}
 use Rattle.eager_meaning.specs.Changing.{cancel, on_cancel}
+use Rattle.market_laws.specs.Pairwise.{pairwise_filter, pairwise_append, across_filter}
 use Rattle.market_laws.specs.Sound.{AreDifferent, IsNew, AllDiffer, IsHeld, IsLiveRow, IsSoundOrder, AreSound}
-use Rattle.market_laws.proofs.Lists.{all_filter}
-use Rattle.market_laws.proofs.Differing.{differ_filter, across_filter, differ_append, takes_within}
+use Rattle.market_laws.specs.ListLaws.{all_filter}
+use Rattle.market_laws.proofs.Differing.{different_back, takes_within}
 use Rattle.market_laws.proofs.Backing.{length_after_all, held_after, still_held, live_unfilled, taker_trades, others_rest}
 use Rattle.market_laws.proofs.Naming.{get_kept, get_last, each_more, quantity_most}
 use Rattle.market_laws.proofs.Sweeping.{sound_after, walk_fits, others_live_after, differ_after, new_after, new_from, turned, recheck_sound, reprice_sound}
@@ -65,7 +66,7 @@ entered_sound n orders taker immediate own others h mine fresh a =
     let joined : Q (own ++ left) = record {
       own_live = all_append (λ x. IsLiveRow n next x.row) own left rest left_live;
       others_live = others_live;
-      own_differ = with_left AllDiffer own after a.own_differ (differ_append own after a.own_differ (new_from (total_of takes) taker own mine));
+      own_differ = with_left AllDiffer own after a.own_differ (pairwise_append AreDifferent different_back own after a.own_differ (new_from (total_of takes) taker own mine));
       others_differ = others_differ;
       differ = with_left (λ rows. AllByRecursion (λ x. IsNew x.row (rows_after takes others)) rows) own after across (all_append (λ x. IsNew x.row (rows_after takes others)) own (after ∷ []) across (after_fresh, tt));
       sound = sound;
@@ -97,14 +98,21 @@ pub new_to_others : (side : Side) (row : Row) (s : State) → IsNew row s.buys �
 new_to_others Buy row s b a = a
 new_to_others Sell row s b a = b
 
-pub enter_agrees : (n : ℕ) (arrival : Arrival) → IsHeld n arrival.state.orders arrival.taker.row → IsNew arrival.taker.row arrival.state.buys → IsNew arrival.taker.row arrival.state.sells → RowsAgree n arrival.state → RowsAgree n (enter arrival).state
+-- an order that is about to enter is new to the book, and agrees with it
+pub record IsSoundArrival (n : ℕ) (arrival : Arrival) : Type 0 where
+  pub held : IsHeld n arrival.state.orders arrival.taker.row
+  pub buys : IsNew arrival.taker.row arrival.state.buys
+  pub sells : IsNew arrival.taker.row arrival.state.sells
+  pub rows : RowsAgree n arrival.state
+
+pub enter_agrees : (n : ℕ) (arrival : Arrival) → IsSoundArrival n arrival → RowsAgree n (enter arrival).state
 unfolding enter
-enter_agrees n arrival h b c a =
+enter_agrees n arrival a =
     let s : State = arrival.state in
     let side : Side = arrival.taker.row.key.side in
     let after : Entered = entered arrival.taker arrival.immediate (own_rows side s) (other_rows side s) in
     put_back n side (orders_after_all after.fills s.orders) after.own after.others s
-    (entered_sound n s.orders arrival.taker arrival.immediate (own_rows side s) (other_rows side s) h (new_to_own side arrival.taker.row s b c) (new_to_others side arrival.taker.row s b c) (own_first n side s a))
+    (entered_sound n s.orders arrival.taker arrival.immediate (own_rows side s) (other_rows side s) a.held (new_to_own side arrival.taker.row s a.buys a.sells) (new_to_others side arrival.taker.row s a.buys a.sells) (own_first n side s a.rows))
 
 pub enter_counts : (arrival : Arrival) → length (enter arrival).state.orders ≡ length arrival.state.orders
 unfolding enter
@@ -147,27 +155,32 @@ next_is_new n orders row rows e o a =
       order = λ same. (let within = slice_get_within orders x.row.order l.held.order l.held.is in omega arith);
     }) rows a
 
-pub new_agrees : (tick n event member : ℕ) (id : List ℕ) (terms : Terms) (broken : Option Rule) (s : State) → event ≡ n + 1 → RowsAgree n s → RowsAgree (n + 1) (on_new tick event member id terms broken s).state
-unfolding on_new arrival_of_new accepted_order row_of
-new_agrees tick n event member id terms (Some rule) s number a = later n s a
-new_agrees tick n event member id terms None s number a =
-    let order : Order = accepted_order tick event member id terms in
+pub new_arrival : (tick n member : ℕ) (id : List ℕ) (terms : Terms) (s : State) → RowsAgree n s → IsSoundArrival (n + 1) (arrival_of_new tick (n + 1) member id terms s)
+unfolding arrival_of_new accepted_order row_of
+new_arrival tick n member id terms s a =
+    let order : Order = accepted_order tick (n + 1) member id terms in
     let orders : List Order = s.orders ++ order ∷ [] in
-    let arrival : Arrival = arrival_of_new tick event member id terms s in
+    let row : Row = (arrival_of_new tick (n + 1) member id terms s).taker.row in
     let b = later n s a in
     let more = λ (x : Priced) (l : IsLiveRow (n + 1) s.orders x.row). more_orders (n + 1) s.orders order x.row l in
-    enter_agrees (n + 1) arrival
-    (record { order = order; is = get_last s.orders order; member = refl; quantity = omega arith; traded = refl; entered = omega arith })
-    (next_is_new n s.orders arrival.taker.row s.buys number refl a.own_live)
-    (next_is_new n s.orders arrival.taker.row s.sells number refl a.others_live)
-    (record {
-      own_live = all_weaken (λ x. IsLiveRow (n + 1) s.orders x.row) (λ x. IsLiveRow (n + 1) orders x.row) more s.buys b.own_live;
-      others_live = all_weaken (λ x. IsLiveRow (n + 1) s.orders x.row) (λ x. IsLiveRow (n + 1) orders x.row) more s.sells b.others_live;
-      own_differ = b.own_differ;
-      others_differ = b.others_differ;
-      differ = b.differ;
-      sound = each_more IsSoundOrder s.orders order b.sound (record { traded = omega arith; quantity = quantity_most terms });
-    })
+    record {
+      held = record { order = order; is = get_last s.orders order; member = refl; quantity = omega arith; traded = refl; entered = omega arith };
+      buys = next_is_new n s.orders row s.buys refl refl a.own_live;
+      sells = next_is_new n s.orders row s.sells refl refl a.others_live;
+      rows = record {
+        own_live = all_weaken (λ x. IsLiveRow (n + 1) s.orders x.row) (λ x. IsLiveRow (n + 1) orders x.row) more s.buys b.own_live;
+        others_live = all_weaken (λ x. IsLiveRow (n + 1) s.orders x.row) (λ x. IsLiveRow (n + 1) orders x.row) more s.sells b.others_live;
+        own_differ = b.own_differ;
+        others_differ = b.others_differ;
+        differ = b.differ;
+        sound = each_more IsSoundOrder s.orders order b.sound (record { traded = omega arith; quantity = quantity_most terms });
+      };
+    }
+
+pub new_agrees : (tick n member : ℕ) (id : List ℕ) (terms : Terms) (broken : Option Rule) (s : State) → RowsAgree n s → RowsAgree (n + 1) (on_new tick (n + 1) member id terms broken s).state
+unfolding on_new
+new_agrees tick n member id terms (Some rule) s a = later n s a
+new_agrees tick n member id terms None s a = enter_agrees (n + 1) _ (new_arrival tick n member id terms s a)
 
 pub new_counts : (tick event member : ℕ) (id : List ℕ) (terms : Terms) (broken : Option Rule) (s : State) → length (on_new tick event member id terms broken s).state.orders ≤ length s.orders + 1
 unfolding on_new arrival_of_new
@@ -207,9 +220,9 @@ filtered n orders p own others a =
     record {
       own_live = all_filter (λ x. IsLiveRow n orders x.row) p own a.own_live;
       others_live = all_filter (λ x. IsLiveRow n orders x.row) p others a.others_live;
-      own_differ = differ_filter p own a.own_differ;
-      others_differ = differ_filter p others a.others_differ;
-      differ = across_filter p p own others a.differ;
+      own_differ = pairwise_filter AreDifferent p own a.own_differ;
+      others_differ = pairwise_filter AreDifferent p others a.others_differ;
+      differ = across_filter AreDifferent p p own others a.differ;
       sound = a.sound;
     }
 

@@ -1,5 +1,5 @@
 -- Rows and orders agree after every history.
-use Rattle.std.proofs.Common.{◌≡◌, ℕ, ◌+◌, ◌≤◌, [], length, Some, refl, subst, arith}
+use Rattle.std.proofs.Common.{◌≡◌, ℕ, ◌+◌, ◌≤◌, [], length, Some, refl, sym, subst, arith}
 use Rattle.std.specs.Prelude.{slice_get, fold}
 use Rattle.venue_words.specs.declared.command.Command.{Command}
 use Rattle.venue_words.specs.declared.command.Command.TheVariants.{Quote, New, Cancel, Replace, Status as Request}
@@ -15,13 +15,13 @@ use Rattle.market_laws.proofs.Numbering.{kept_by_all, numbered_from_none}
 use Rattle.market_laws.proofs.Admitting.{RowsAgree, later, new_agrees, new_counts, quote_agrees, quote_counts, cancel_agrees, cancel_counts}
 use Rattle.market_laws.proofs.Replacing.{replace_agrees, replace_counts}
 
-outcome_agrees : (tick n event : ℕ) (command : Command) (s : State) → event ≡ n + 1 → RowsAgree n s → RowsAgree (n + 1) (outcome_of tick event command s).state
+outcome_agrees : (tick n : ℕ) (command : Command) (s : State) → RowsAgree n s → RowsAgree (n + 1) (outcome_of tick (n + 1) command s).state
 unfolding outcome_of on_status
-outcome_agrees tick n event (Quote market bid offer) s number a = quote_agrees n event market (record { bid = bid; offer = offer }) s a
-outcome_agrees tick n event (New member id terms) s number a = new_agrees tick n event member id terms _ s number a
-outcome_agrees tick n event (Cancel member id orig) s number a = cancel_agrees n member id orig _ _ s a
-outcome_agrees tick n event (Replace member id orig terms) s number a = replace_agrees tick n event member id orig terms _ (is_used member id s.used) _ s number refl refl a
-outcome_agrees tick n event (Request member id side) s number a = later n s a
+outcome_agrees tick n (Quote market bid offer) s a = quote_agrees n (n + 1) market (record { bid = bid; offer = offer }) s a
+outcome_agrees tick n (New member id terms) s a = new_agrees tick n member id terms _ s a
+outcome_agrees tick n (Cancel member id orig) s a = cancel_agrees n member id orig _ _ s a
+outcome_agrees tick n (Replace member id orig terms) s a = replace_agrees tick n member id orig terms _ (is_used member id s.used) _ s refl refl a
+outcome_agrees tick n (Request member id side) s a = later n s a
 
 outcome_counts : (tick event : ℕ) (command : Command) (s : State) → length (outcome_of tick event command s).state.orders ≤ length s.orders + 1
 unfolding outcome_of on_status
@@ -37,23 +37,23 @@ outcome_counts tick event (Replace member id orig terms) s =
     omega (arith, e)
 outcome_counts tick event (Request member id side) s = omega arith
 
-step_sound : (tick n : ℕ) (run : Run) (event : Event) → event.number ≡ n + 1 → IsSound n run.state → IsSound (n + 1) (step tick run event).state
+pub step_sound : (tick n : ℕ) (run : Run) (event : Event) → event.number ≡ n + 1 → IsSound n run.state → IsSound (n + 1) (step tick run event).state
 unfolding step
 step_sound tick n run event number is =
     record {
-      rows = outcome_agrees tick n event.number event.command run.state number is.rows;
+      rows = subst (λ (m : ℕ). RowsAgree (n + 1) (outcome_of tick m event.command run.state).state) (sym number) (outcome_agrees tick n event.command run.state is.rows);
       few = (let most = outcome_counts tick event.number event.command run.state in let few = is.few in omega arith);
       fewer = (let rows = outcome_fewer tick event.number event.command run.state in let fewer = is.fewer in omega (arith, rows, fewer));
     }
 
-no_order : (k : ℕ) (order : Order) → slice_get [] k ≡ Some order → IsSoundOrder order
+pub no_order : (k : ℕ) (order : Order) → slice_get [] k ≡ Some order → IsSoundOrder order
 no_order k order e = cc
 
 pub book_is_sound : BookIsSound
 unfolding runs
 book_is_sound markets tick history numbered =
     let first : Run = record { state = initial markets; reports = [] } in
-    let all = kept_by_all tick (λ n run. IsSound n run.state) (step_sound tick) 0 first history (numbered_from_none history numbered)
+    let all = kept_by_all (step tick) (λ n run. IsSound n run.state) (step_sound tick) 0 first history (numbered_from_none history numbered)
     (record { rows = record { own_live = tt; others_live = tt; own_differ = tt; others_differ = tt; differ = tt; sound = no_order }; few = omega arith; fewer = omega arith }) in
     let count : 0 + length history ≡ length history = omega arith in
     subst (λ (n : ℕ). IsSound n (fold (step tick) first history).state) count all

@@ -21,8 +21,8 @@ use Rattle.eager_meaning.specs.Matching.{takes_of, fill_of, fills_of, row_after,
 use Rattle.eager_meaning.specs.Recheck.{Sides, meet, crosses_any, sweep, Matched, recheck}
 use Rattle.market_laws.specs.Placed.{side_at, opposite, IsOnSide, IsPlaced}
 use Rattle.market_laws.specs.Trading.{IsWithinQuote}
-use Rattle.market_laws.proofs.Lists.{all_map}
-use Rattle.market_laws.proofs.Walking.{IsMet, takes_all, rows_after_all, in_priority_all}
+use Rattle.market_laws.specs.ListLaws.{all_map}
+use Rattle.market_laws.specs.WalkLaws.{IsMet, takes_all, rows_after_all, in_priority_all}
 use Rattle.market_laws.proofs.Bounding.{price_within, price_most}
 
 -- both orders of a trade are there, of opposite sides, and its price is within the quote

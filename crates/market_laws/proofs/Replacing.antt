@@ -3,7 +3,6 @@ use Rattle.std.proofs.Common.{◌≡◌, ℕ, ◌+◌, ◌-◌, ◌<◌, ◌≤�
 use Rattle.std.specs.Prelude.{slice_get, map, nat_lt, ◌==◌}
 use Rattle.std.specs.List.{AllByRecursion}
 use Rattle.std.proofs.lemmas.Bool.{ne_eqb, eq-eqb}
-use Rattle.std.proofs.lemmas.Bool.Decides.{nat_tests}
 use Rattle.venue_words.specs.declared.command.Command.TheVariants.{Replace}
 use Rattle.venue_words.specs.declared.command.Rule.{Rule}
 use Rattle.venue_words.specs.declared.command.Terms.{Terms}
@@ -19,29 +18,28 @@ use Rattle.eager_meaning.specs.Terms.{row_of, quantity_of}
 use Rattle.eager_meaning.specs.Verdict.{verdict}
 use Rattle.eager_meaning.specs.Entering.{Arrival, enter}
 use Rattle.eager_meaning.specs.Changing.{without, replaced_order, only_lowers, with_leaves, resize, arrival_of_replace, on_replace}
+use Rattle.market_laws.specs.Equalities.{same_number, some_is}
+use Rattle.market_laws.specs.Pairwise.{pairwise_map, across_map}
 use Rattle.market_laws.specs.Sound.{AreDifferent, IsNew, AllDiffer, IsLiveRow, IsSoundOrder, AreSound}
-use Rattle.market_laws.proofs.Lists.{all_filter, all_map}
-use Rattle.market_laws.proofs.Differing.{KeepsNames, IsSameOrDiffers, each_same_or_differs, differ_map, across_map}
+use Rattle.market_laws.specs.ListLaws.{all_filter, all_map}
+use Rattle.market_laws.proofs.Differing.{different_back, KeepsNames, named_apart, IsSameOrDiffers, each_same_or_differs}
 use Rattle.market_laws.proofs.Backing.{length_changed}
 use Rattle.market_laws.proofs.Living.{IsLive, live_found}
 use Rattle.market_laws.proofs.Naming.{get_changed, get_other, each_changed, find_passes, live_member, quantity_most, quantity_above}
-use Rattle.market_laws.proofs.Admitting.{RowsAgree, enter_agrees, enter_counts, later, filtered}
+use Rattle.market_laws.proofs.Admitting.{RowsAgree, IsSoundArrival, enter_agrees, enter_counts, later, filtered}
 
 joined_differ : (xs ys : List Priced) → AllDiffer xs → AllDiffer ys → AllByRecursion (λ x. IsNew x.row ys) xs → AllDiffer (xs ++ ys)
 joined_differ [] ys a b c = b
 joined_differ (x ∷ xs) ys a b c = (all_append (λ y. AreDifferent x.row y.row) xs ys a.0 c.0, joined_differ xs ys a.1 b c.1)
 
 -- the row of a live order, among the rows of both sides
-record IsAmong (n : ℕ) (s : State) (live : Live) : Type 0 where
-  row : IsLiveRow n s.orders live.row.row
-  number : live.row.row.order ≡ live.number
-  buys : AllByRecursion (λ y. IsSameOrDiffers live.row.row y.row) s.buys
-  sells : AllByRecursion (λ y. IsSameOrDiffers live.row.row y.row) s.sells
+pub record IsAmong (n : ℕ) (s : State) (live : Live) : Type 0 where
+  pub row : IsLiveRow n s.orders live.row.row
+  pub number : live.row.row.order ≡ live.number
+  pub buys : AllByRecursion (λ y. IsSameOrDiffers live.row.row y.row) s.buys
+  pub sells : AllByRecursion (λ y. IsSameOrDiffers live.row.row y.row) s.sells
 
-same_number : (a b : ℕ) → (a == b) ≡ true → a ≡ b
-same_number a b e = grind (arith, nat_tests)
-
-among : (n : ℕ) (s : State) (live : Live) → RowsAgree n s → IsLive s.orders (resting s) live → IsAmong n s live
+pub among : (n : ℕ) (s : State) (live : Live) → RowsAgree n s → IsLive s.orders (resting s) live → IsAmong n s live
 unfolding row_of_order
 among n s live a is =
     let all = joined_differ s.buys s.sells a.own_differ a.others_differ a.differ in
@@ -57,13 +55,19 @@ other_row n orders f number row d l =
     let h = l.held in
     record { held = record { order = h.order; is = get_other f number row.order orders d ∙ h.is; member = h.member; quantity = h.quantity; traded = h.traded; entered = h.entered }; left = l.left }
 
-some_order : (x y : Order) → Some x ≡ Some y → x ≡ y
-some_order x y e = cc
-
 keeps_leaves : (entry leaves : ℕ) → KeepsNames (with_leaves entry leaves)
 keeps_leaves entry leaves x =
     let P : Priced → Type 0 = λ y. (y.row.entry ≡ x.row.entry) × (y.row.order ≡ x.row.order) in
     elim (x.row.entry == entry) as (λ b. P (cond b (record x { row = record x.row { leaves = leaves } }) x)) [ true ↦ (refl, refl) | false ↦ (refl, refl) ]
+
+-- the rows that are left where a row is taken out
+pub rest_differ : (row : Row) (rows : List Priced) → AllByRecursion (λ y. IsSameOrDiffers row y.row) rows → AllByRecursion (λ y. AreDifferent row y.row) (without row.entry rows)
+rest_differ row [] a = tt
+rest_differ row (y ∷ ys) a =
+    elim a.0 [
+      | inl same ↦ let e : (y.row.entry == row.entry) ≡ true = eq-eqb _ _ same.0 in rw e (rest_differ row ys a.1)
+      | inr other ↦ let e : (y.row.entry == row.entry) ≡ false = ne_eqb _ _ (λ g. other.entry (sym g)) in rw e (other, rest_differ row ys a.1)
+    ]
 
 module _ (tick n : ℕ) (id : List ℕ) (terms : Terms) (live : Live) (s : State) (at : slice_get s.orders live.number ≡ Some live.order) (more : live.order.cum < quantity_of terms) where
   resized_row : (r x : Priced) → r.row.order ≡ live.number → IsSameOrDiffers r.row x.row → IsLiveRow n s.orders x.row → IsLiveRow n (changed_at (replaced_order tick id terms) live.number s.orders) (with_leaves r.row.entry (quantity_of terms - live.order.cum) x).row
@@ -77,7 +81,7 @@ module _ (tick n : ℕ) (id : List ℕ) (terms : Terms) (live : Live) (s : State
             let e : (x.row.entry == r.row.entry) ≡ true = eq-eqb _ _ same.0 in
             let order : live.number ≡ x.row.order = sym (same.1 ∙ number) in
             let here : slice_get orders x.row.order ≡ Some (f live.order) = subst (λ (k : ℕ). slice_get orders k ≡ Some (f live.order)) order (get_changed f live.number s.orders live.order at) in
-            let old : l.held.order ≡ live.order = some_order _ _ (sym l.held.is ∙ (ap (slice_get s.orders) (sym order) ∙ at)) in
+            let old : l.held.order ≡ live.order = some_is _ _ (sym l.held.is ∙ (ap (slice_get s.orders) (sym order) ∙ at)) in
             rw e (record {
               held = record {
                 order = f live.order;
@@ -105,30 +109,21 @@ module _ (tick n : ℕ) (id : List ℕ) (terms : Terms) (live : Live) (s : State
       let entry : ℕ = live.row.row.entry in
       let leaves : ℕ = quantity_of terms - live.order.cum in
       let f : Priced → Priced = with_leaves entry leaves in
-      let keeps = keeps_leaves entry leaves in
+      let keeps = named_apart f (keeps_leaves entry leaves) in
       let each : (x : Priced) → IsSameOrDiffers live.row.row x.row → IsLiveRow n s.orders x.row → IsLiveRow n orders (f x).row = λ x d l. resized_row live.row x m.number d l in
       record {
         own_live = all_map (λ x. IsLiveRow n orders (f x).row) (λ x. IsLiveRow n orders x.row) f (λ x p. p) s.buys (all_both (λ x. IsSameOrDiffers live.row.row x.row) (λ x. IsLiveRow n s.orders x.row) (λ x. IsLiveRow n orders (f x).row) each s.buys m.buys a.own_live);
         others_live = all_map (λ x. IsLiveRow n orders (f x).row) (λ x. IsLiveRow n orders x.row) f (λ x p. p) s.sells (all_both (λ x. IsSameOrDiffers live.row.row x.row) (λ x. IsLiveRow n s.orders x.row) (λ x. IsLiveRow n orders (f x).row) each s.sells m.sells a.others_live);
-        own_differ = differ_map f keeps s.buys a.own_differ;
-        others_differ = differ_map f keeps s.sells a.others_differ;
-        differ = across_map f f keeps keeps s.buys s.sells a.differ;
+        own_differ = pairwise_map AreDifferent different_back f keeps s.buys a.own_differ;
+        others_differ = pairwise_map AreDifferent different_back f keeps s.sells a.others_differ;
+        differ = across_map AreDifferent different_back f f keeps keeps s.buys s.sells a.differ;
         sound = changed_sound a.sound;
       }
-
-  -- the rows that are left where the live order's row is taken out
-  rest_differ : (rows : List Priced) → AllByRecursion (λ y. IsSameOrDiffers live.row.row y.row) rows → AllByRecursion (λ y. AreDifferent live.row.row y.row) (without live.row.row.entry rows)
-  rest_differ [] a = tt
-  rest_differ (y ∷ ys) a =
-      elim a.0 [
-        | inl same ↦ let e : (y.row.entry == live.row.row.entry) ≡ true = eq-eqb _ _ same.0 in rw e (rest_differ ys a.1)
-        | inr other ↦ let e : (y.row.entry == live.row.row.entry) ≡ false = ne_eqb _ _ (λ g. other.entry (sym g)) in rw e (other, rest_differ ys a.1)
-      ]
 
   without_live : (rows : List Priced) → live.row.row.order ≡ live.number → AllByRecursion (λ y. IsSameOrDiffers live.row.row y.row) rows → AllByRecursion (λ x. IsLiveRow n s.orders x.row) rows → AllByRecursion (λ x. IsLiveRow n (changed_at (replaced_order tick id terms) live.number s.orders) x.row) (without live.row.row.entry rows)
   without_live rows number d l =
       all_both (λ y. AreDifferent live.row.row y.row) (λ x. IsLiveRow n s.orders x.row) (λ x. IsLiveRow n (changed_at (replaced_order tick id terms) live.number s.orders) x.row)
-      (λ x other alive. other_row n s.orders (replaced_order tick id terms) live.number x.row (λ g. other.order (number ∙ g)) alive) (without live.row.row.entry rows) (rest_differ rows d)
+      (λ x other alive. other_row n s.orders (replaced_order tick id terms) live.number x.row (λ g. other.order (number ∙ g)) alive) (without live.row.row.entry rows) (rest_differ live.row.row rows d)
       (all_filter (λ x. IsLiveRow n s.orders x.row) (λ x. not (x.row.entry == live.row.row.entry)) rows l)
 
   taken_out : RowsAgree n s → IsAmong n s live → AreSound n (changed_at (replaced_order tick id terms) live.number s.orders) (without live.row.row.entry s.buys) (without live.row.row.entry s.sells)
@@ -148,40 +143,50 @@ module _ (tick n : ℕ) (id : List ℕ) (terms : Terms) (live : Live) (s : State
   again_new m row rows entry order number d l =
       all_both (λ y. AreDifferent live.row.row y.row) (λ x. x.row.entry ≤ m) (λ x. AreDifferent row x.row)
       (λ x other most. record { entry = λ same. omega arith; order = λ same. other.order (number ∙ (sym order ∙ same)) })
-      (without live.row.row.entry rows) (rest_differ rows d) (all_filter (λ x. x.row.entry ≤ m) (λ x. not (x.row.entry == live.row.row.entry)) rows l)
+      (without live.row.row.entry rows) (rest_differ live.row.row rows d) (all_filter (λ x. x.row.entry ≤ m) (λ x. not (x.row.entry == live.row.row.entry)) rows l)
 
 entries_of : (n : ℕ) (orders : List Order) (rows : List Priced) → AllByRecursion (λ x. IsLiveRow n orders x.row) rows → AllByRecursion (λ x. x.row.entry ≤ n) rows
 entries_of n orders rows a = all_weaken (λ x. IsLiveRow n orders x.row) (λ x. x.row.entry ≤ n) (λ x l. l.held.entered) rows a
 
-pub replace_agrees : (tick n event member : ℕ) (id orig : List ℕ) (terms : Terms) (live : Option Live) (used : Bool) (broken : Option Rule) (s : State) → event ≡ n + 1
-    → live_named member orig s.orders (resting s) ≡ live → verdict (Replace member id orig terms) (known_of tick used live) ≡ broken → RowsAgree n s → RowsAgree (n + 1) (on_replace tick event member id orig terms live broken s).state
-unfolding on_replace resize arrival_of_replace row_of
-replace_agrees tick n event member id orig terms live used (Some rule) s number is v a = later n s a
-replace_agrees tick n event member id orig terms None used None s number is v a = later n s a
-replace_agrees tick n event member id orig terms (Some live) used None s number is v a =
+-- a Replace that breaks no rule, of a live order: where it enters anew, it is new to the book without it
+pub replace_arrival : (tick n member : ℕ) (id orig : List ℕ) (terms : Terms) (live : Live) (used : Bool) (s : State)
+    → live_named member orig s.orders (resting s) ≡ Some live → verdict (Replace member id orig terms) (known_of tick used (Some live)) ≡ None → RowsAgree n s → IsSoundArrival (n + 1) (arrival_of_replace tick (n + 1) member id orig terms live s)
+unfolding arrival_of_replace row_of
+replace_arrival tick n member id orig terms live used s is v a =
     let found = live_found member orig s.orders (resting s) live is in
     let b = later n s a in
     let m = among (n + 1) s live b found in
     let more = quantity_above member id orig terms tick used live v in
     let change : Order → Order = replaced_order tick id terms in
-    let orders : List Order = changed_at change live.number s.orders in
-    let arrival : Arrival = arrival_of_replace tick event member id orig terms live s in
+    let row : Row = (arrival_of_replace tick (n + 1) member id orig terms live s).taker.row in
+    record {
+      held = record {
+        order = change live.order;
+        is = get_changed change live.number s.orders live.order found.order;
+        member = sym (live_member member orig s.orders (resting s) live is);
+        quantity = omega arith;
+        traded = refl;
+        entered = omega arith;
+      };
+      buys = again_new tick (n + 1) id terms live s found.order more n row s.buys refl refl m.number m.buys (entries_of n s.orders s.buys a.own_live);
+      sells = again_new tick (n + 1) id terms live s found.order more n row s.sells refl refl m.number m.sells (entries_of n s.orders s.sells a.others_live);
+      rows = taken_out tick (n + 1) id terms live s found.order more b m;
+    }
+
+pub replace_agrees : (tick n member : ℕ) (id orig : List ℕ) (terms : Terms) (live : Option Live) (used : Bool) (broken : Option Rule) (s : State)
+    → live_named member orig s.orders (resting s) ≡ live → verdict (Replace member id orig terms) (known_of tick used live) ≡ broken → RowsAgree n s → RowsAgree (n + 1) (on_replace tick (n + 1) member id orig terms live broken s).state
+unfolding on_replace resize
+replace_agrees tick n member id orig terms live used (Some rule) s is v a = later n s a
+replace_agrees tick n member id orig terms None used None s is v a = later n s a
+replace_agrees tick n member id orig terms (Some live) used None s is v a =
+    let b = later n s a in
+    let found = live_found member orig s.orders (resting s) live is in
+    let more = quantity_above member id orig terms tick used live v in
+    let arrival : Arrival = arrival_of_replace tick (n + 1) member id orig terms live s in
     let P : Outcome → Type 0 = λ o. RowsAgree (n + 1) o.state in
     elim (only_lowers tick terms live) as (λ c. P (cond c (resize tick member id orig terms live s) (enter arrival))) [
-      | true ↦ resize_agrees tick (n + 1) id terms live s found.order more b m
-      | false ↦
-          enter_agrees (n + 1) arrival
-          (record {
-            order = change live.order;
-            is = get_changed change live.number s.orders live.order found.order;
-            member = sym (live_member member orig s.orders (resting s) live is);
-            quantity = omega arith;
-            traded = refl;
-            entered = omega arith;
-          })
-          (again_new tick (n + 1) id terms live s found.order more n arrival.taker.row s.buys number refl m.number m.buys (entries_of n s.orders s.buys a.own_live))
-          (again_new tick (n + 1) id terms live s found.order more n arrival.taker.row s.sells number refl m.number m.sells (entries_of n s.orders s.sells a.others_live))
-          (taken_out tick (n + 1) id terms live s found.order more b m)
+      | true ↦ resize_agrees tick (n + 1) id terms live s found.order more b (among (n + 1) s live b found)
+      | false ↦ enter_agrees (n + 1) arrival (replace_arrival tick n member id orig terms live used s is v a)
     ]
 
 pub replace_counts : (tick event member : ℕ) (id orig : List ℕ) (terms : Terms) (live : Option Live) (broken : Option Rule) (s : State) → length (on_replace tick event member id orig terms live broken s).state.orders ≡ length s.orders

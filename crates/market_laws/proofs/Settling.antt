@@ -37,7 +37,7 @@ use Rattle.eager_meaning.specs.Verdict.{verdict}
 use Rattle.eager_meaning.specs.Step.{view_now, on_status, outcome_of}
 use Rattle.market_laws.specs.Placed.{side_at, opposite, IsPlaced, AreWorthAtMost, IsPlacedBook}
 use Rattle.market_laws.specs.Trading.{shares_on, IsPricedWithin}
-use Rattle.market_laws.proofs.Lists.{all_filter, all_map}
+use Rattle.market_laws.specs.ListLaws.{all_filter, all_map}
 use Rattle.market_laws.proofs.Siding.{side_changed, sides_after_all, side_kept, side_of_last}
 use Rattle.market_laws.proofs.Meeting.{IsFairFill, stays_placed, fills_fair, left_placed, recheck_fair, same_option, reprice_places, same_sides}
 use Rattle.market_laws.proofs.Telling.{shares_told, IsNoTrade, none_told, none_priced, left_no_trade, trades_even, trades_priced}
@@ -148,9 +148,16 @@ entered_fair best orders side taker immediate own others p a b =
       fills = fills_fair best orders side taker others p b;
     }
 
-enter_fair : (arrival : Arrival) → IsPlaced (best_of arrival.state.markets) arrival.state.orders arrival.taker.row.key.side arrival.taker → IsNoTrade arrival.notice.kind → IsPlacedBook arrival.state → IsFair (enter arrival)
+-- an order that is about to enter is placed as the rows of the book are
+pub record IsPlacedArrival (arrival : Arrival) : Type 0 where
+  pub taker : IsPlaced (best_of arrival.state.markets) arrival.state.orders arrival.taker.row.key.side arrival.taker
+  pub rows : IsPlacedBook arrival.state
+
+enter_fair : (arrival : Arrival) → IsPlacedArrival arrival → IsNoTrade arrival.notice.kind → IsFair (enter arrival)
 unfolding enter
-enter_fair arrival p plain rows =
+enter_fair arrival a plain =
+    let p = a.taker in
+    let rows = a.rows in
     let s : State = arrival.state in
     let best : Best = best_of s.markets in
     let side : Side = arrival.taker.row.key.side in
@@ -171,24 +178,29 @@ enter_fair arrival p plain rows =
       priced = subst (λ (m : List Best). AllByRecursion (λ (notice : Notice). IsPricedWithin (best_of m) notice.kind) (arrival.notice ∷ (trades ++ rest))) (sym (same_markets side after.own after.others (record s { orders = orders }))) priced;
     }
 
-new_fair : (tick event member : ℕ) (id : List ℕ) (terms : Terms) (broken : Option Rule) (s : State) → IsPlacedBook s → IsFair (on_new tick event member id terms broken s)
-unfolding on_new arrival_of_new accepted_order row_of
-new_fair tick event member id terms (Some rule) s rows = one_fair member _ s (record { none = λ side. refl; any = λ best. tt }) rows
-new_fair tick event member id terms None s rows =
+pub new_placed : (tick event member : ℕ) (id : List ℕ) (terms : Terms) (s : State) → IsPlacedBook s → IsPlacedArrival (arrival_of_new tick event member id terms s)
+unfolding arrival_of_new accepted_order row_of
+new_placed tick event member id terms s rows =
     let order : Order = accepted_order tick event member id terms in
     let orders : List Order = s.orders ++ order ∷ [] in
     let kept = λ (j : ℕ) (side : Side) (h : side_at s.orders j ≡ Some side). side_kept s.orders order j side h in
-    enter_fair (arrival_of_new tick event member id terms s)
-    (record {
-      on = record { key = refl; order = side_of_last s.orders order ∙ ap Some (sym (key_side tick terms)) };
-      priced = refl;
-    })
-    (record { none = λ side. refl; any = λ best. tt })
-    (record {
-      buys = same_sides (best_of s.markets) s.orders orders Buy kept s.buys rows.buys;
-      sells = same_sides (best_of s.markets) s.orders orders Sell kept s.sells rows.sells;
-      worth = worth_next s.orders order refl rows.worth;
-    })
+    record {
+      taker = record {
+        on = record { key = refl; order = side_of_last s.orders order ∙ ap Some (sym (key_side tick terms)) };
+        priced = refl;
+      };
+      rows = record {
+        buys = same_sides (best_of s.markets) s.orders orders Buy kept s.buys rows.buys;
+        sells = same_sides (best_of s.markets) s.orders orders Sell kept s.sells rows.sells;
+        worth = worth_next s.orders order refl rows.worth;
+      };
+    }
+
+new_fair : (tick event member : ℕ) (id : List ℕ) (terms : Terms) (broken : Option Rule) (s : State) → IsPlacedBook s → IsFair (on_new tick event member id terms broken s)
+unfolding on_new arrival_of_new
+new_fair tick event member id terms (Some rule) s rows = one_fair member _ s (record { none = λ side. refl; any = λ best. tt }) rows
+new_fair tick event member id terms None s rows =
+    enter_fair (arrival_of_new tick event member id terms s) (new_placed tick event member id terms s rows) (record { none = λ side. refl; any = λ best. tt })
 
 -- ---- cancels and replaces
 
@@ -210,41 +222,58 @@ leaves_placed best orders side entry leaves x p =
     elim (x.row.entry == entry) as (λ b. IsPlaced best orders side (cond b (record x { row = record x.row { leaves = leaves } }) x))
     [ true ↦ record { on = record { key = p.on.key; order = p.on.order }; priced = p.priced } | false ↦ p ]
 
-replace_fair : (tick event member : ℕ) (id orig : List ℕ) (terms : Terms) (live : Option Live) (used : Bool) (broken : Option Rule) (s : State)
-    → live_named member orig s.orders (resting s) ≡ live → verdict (Replace member id orig terms) (known_of tick used live) ≡ broken
-    → IsPlacedBook s → IsFair (on_replace tick event member id orig terms live broken s)
-unfolding on_replace resize arrival_of_replace row_of
-replace_fair tick event member id orig terms live used (Some rule) s is v rows = one_fair member _ s (record { none = λ side. refl; any = λ best. tt }) rows
-replace_fair tick event member id orig terms None used None s is v rows = record { state = rows; even = refl; priced = tt }
-replace_fair tick event member id orig terms (Some live) used None s is v rows =
-    let found = live_found member orig s.orders (resting s) live is in
+-- the rows after a live order was replaced, before it enters anew or its row is lowered
+replaced_book : (tick : ℕ) (id : List ℕ) (terms : Terms) (live : Live) (s : State) → IsPlacedBook s → IsPlacedBook (record s { orders = changed_at (replaced_order tick id terms) live.number s.orders })
+replaced_book tick id terms live s rows =
     let change : Order → Order = replaced_order tick id terms in
     let orders : List Order = changed_at change live.number s.orders in
     let kept = λ (j : ℕ) (side : Side) (h : side_at s.orders j ≡ Some side). side_changed change (λ order. refl) live.number s.orders j ∙ h in
-    let buys = same_sides (best_of s.markets) s.orders orders Buy kept s.buys rows.buys in
-    let sells = same_sides (best_of s.markets) s.orders orders Sell kept s.sells rows.sells in
-    let worth : AreWorthAtMost orders = each_kept (λ order. order.notional ≤ PRICE_END * order.cum) change (λ x w. w) live.number s.orders rows.worth in
+    record {
+      buys = same_sides (best_of s.markets) s.orders orders Buy kept s.buys rows.buys;
+      sells = same_sides (best_of s.markets) s.orders orders Sell kept s.sells rows.sells;
+      worth = each_kept (λ order. order.notional ≤ PRICE_END * order.cum) change (λ x w. w) live.number s.orders rows.worth;
+    }
+
+pub replace_placed : (tick event member : ℕ) (id orig : List ℕ) (terms : Terms) (live : Live) (used : Bool) (s : State)
+    → live_named member orig s.orders (resting s) ≡ Some live → verdict (Replace member id orig terms) (known_of tick used (Some live)) ≡ None
+    → IsPlacedBook s → IsPlacedArrival (arrival_of_replace tick event member id orig terms live s)
+unfolding arrival_of_replace row_of
+replace_placed tick event member id orig terms live used s is v rows =
+    let found = live_found member orig s.orders (resting s) live is in
+    let change : Order → Order = replaced_order tick id terms in
+    let orders : List Order = changed_at change live.number s.orders in
+    let book = replaced_book tick id terms live s rows in
     let at : side_at s.orders live.number ≡ Some live.order.side = ap (λ (x : Option Order). option_map (λ (order : Order). order.side) x) found.order in
+    record {
+      taker = record {
+        on = record { key = refl; order = side_changed change (λ order. refl) live.number s.orders live.number ∙ at ∙ ap Some (sym (key_side tick terms ∙ same_side member id orig terms tick used live v)) };
+        priced = refl;
+      };
+      rows = record {
+        buys = all_filter (IsPlaced (best_of s.markets) orders Buy) _ s.buys book.buys;
+        sells = all_filter (IsPlaced (best_of s.markets) orders Sell) _ s.sells book.sells;
+        worth = book.worth;
+      };
+    }
+
+replace_fair : (tick event member : ℕ) (id orig : List ℕ) (terms : Terms) (live : Option Live) (used : Bool) (broken : Option Rule) (s : State)
+    → live_named member orig s.orders (resting s) ≡ live → verdict (Replace member id orig terms) (known_of tick used live) ≡ broken
+    → IsPlacedBook s → IsFair (on_replace tick event member id orig terms live broken s)
+unfolding on_replace resize arrival_of_replace
+replace_fair tick event member id orig terms live used (Some rule) s is v rows = one_fair member _ s (record { none = λ side. refl; any = λ best. tt }) rows
+replace_fair tick event member id orig terms None used None s is v rows = record { state = rows; even = refl; priced = tt }
+replace_fair tick event member id orig terms (Some live) used None s is v rows =
+    let orders : List Order = changed_at (replaced_order tick id terms) live.number s.orders in
+    let book = replaced_book tick id terms live s rows in
     elim (only_lowers tick terms live) as (λ b. IsFair (cond b (resize tick member id orig terms live s) (enter (arrival_of_replace tick event member id orig terms live s)))) [
       | true ↦
           one_fair member _ _ (record { none = λ side. refl; any = λ best. tt })
           (record {
-            buys = all_map (IsPlaced (best_of s.markets) orders Buy) (IsPlaced (best_of s.markets) orders Buy) _ (leaves_placed (best_of s.markets) orders Buy _ _) s.buys buys;
-            sells = all_map (IsPlaced (best_of s.markets) orders Sell) (IsPlaced (best_of s.markets) orders Sell) _ (leaves_placed (best_of s.markets) orders Sell _ _) s.sells sells;
-            worth = worth;
+            buys = all_map (IsPlaced (best_of s.markets) orders Buy) (IsPlaced (best_of s.markets) orders Buy) _ (leaves_placed (best_of s.markets) orders Buy _ _) s.buys book.buys;
+            sells = all_map (IsPlaced (best_of s.markets) orders Sell) (IsPlaced (best_of s.markets) orders Sell) _ (leaves_placed (best_of s.markets) orders Sell _ _) s.sells book.sells;
+            worth = book.worth;
           })
-      | false ↦
-          enter_fair (arrival_of_replace tick event member id orig terms live s)
-          (record {
-            on = record { key = refl; order = kept live.number live.order.side at ∙ ap Some (sym (key_side tick terms ∙ same_side member id orig terms tick used live v)) };
-            priced = refl;
-          })
-          (record { none = λ side. refl; any = λ best. tt })
-          (record {
-            buys = all_filter (IsPlaced (best_of s.markets) orders Buy) _ s.buys buys;
-            sells = all_filter (IsPlaced (best_of s.markets) orders Sell) _ s.sells sells;
-            worth = worth;
-          })
+      | false ↦ enter_fair (arrival_of_replace tick event member id orig terms live s) (replace_placed tick event member id orig terms live used s is v rows) (record { none = λ side. refl; any = λ best. tt })
     ]
 
 -- ---- all events

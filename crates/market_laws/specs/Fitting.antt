@@ -1,6 +1,7 @@
 -- Trades that fit the orders to which they are added.
-use Rattle.std.specs.Prelude.{◌≡◌, ℕ, ◌+◌, ◌≤◌, List, [], ◌∷◌, length, slice_get, Some}
+use Rattle.std.specs.Prelude.{◌≡◌, ℕ, ◌+◌, ◌≤◌, List, [], ◌∷◌, length, slice_get, Some, None}
 use Rattle.venue_words.specs.declared.command.Event.{Event}
+use Rattle.venue_words.specs.declared.command.Command.TheVariants.{Replace}
 use Rattle.venue_words.specs.declared.command.Terms.{Terms}
 use Rattle.venue_words.specs.declared.price.Best.{Best}
 use Rattle.venue_words.specs.Retime.{reprice}
@@ -9,8 +10,12 @@ use Rattle.eager_meaning.specs.declared.trade.Fill.{Fill}
 use Rattle.eager_meaning.specs.Orders.{changed_at}
 use Rattle.eager_meaning.specs.Trades.{order_after, orders_after}
 use Rattle.eager_meaning.specs.Recheck.{recheck}
-use Rattle.eager_meaning.specs.Entering.{entered, arrival_of_new}
-use Rattle.eager_meaning.specs.State.{own_rows, other_rows}
+use Rattle.eager_meaning.specs.declared.order.Live.{Live}
+use Rattle.eager_meaning.specs.Orders.{live_named, is_used, known_of}
+use Rattle.eager_meaning.specs.Verdict.{verdict}
+use Rattle.eager_meaning.specs.Entering.{Arrival, entered, arrival_of_new}
+use Rattle.eager_meaning.specs.Changing.{arrival_of_replace}
+use Rattle.eager_meaning.specs.State.{own_rows, other_rows, resting}
 use Rattle.eager_meaning.specs.Step.{IsNumbered, runs}
 use Rattle.market_laws.specs.Placed.{IsPlacedBook}
 
@@ -37,6 +42,12 @@ QuoteTradesFit =
     → let s = (runs markets tick history).state in
     FillsFit (recheck (reprice event best s.buys) (reprice event best s.sells)).fills s.orders
 
+-- the trades of an order that enters
+abbrev pub arrival_fills : Arrival → List Fill
+arrival_fills arrival =
+    let side = arrival.taker.row.key.side in
+    (entered arrival.taker arrival.immediate (own_rows side arrival.state) (other_rows side arrival.state)).fills
+
 -- after every history whose events are numbered: the trades that a New makes, where it enters at the next event, fit
 abbrev pub NewTradesFit : Type 0
 NewTradesFit =
@@ -44,10 +55,19 @@ NewTradesFit =
     → IsNumbered history
     → (member : ℕ) (id : List ℕ) (terms : Terms)
     → let arrival = arrival_of_new tick (length history + 1) member id terms (runs markets tick history).state in
-    let side = arrival.taker.row.key.side in
-    FillsFit
-    (entered arrival.taker arrival.immediate (own_rows side arrival.state) (other_rows side arrival.state)).fills
-    arrival.state.orders
+    FillsFit (arrival_fills arrival) arrival.state.orders
+
+-- so for a Replace that names a live order and breaks no rule, where the order enters anew at the next event
+abbrev pub ReplaceTradesFit : Type 0
+ReplaceTradesFit =
+    (markets tick : ℕ) (history : List Event)
+    → IsNumbered history
+    → (member : ℕ) (id orig : List ℕ) (terms : Terms) (live : Live)
+    → let s = (runs markets tick history).state in
+    live_named member orig s.orders (resting s) ≡ Some live
+    → verdict (Replace member id orig terms) (known_of tick (is_used member id s.used) (Some live)) ≡ None
+    → let arrival = arrival_of_replace tick (length history + 1) member id orig terms live s in
+    FillsFit (arrival_fills arrival) arrival.state.orders
 
 -- after every history, each row is on its list's side, as its order is, and is priced by the national quote
 abbrev pub RowsArePlaced : Type 0

@@ -1,7 +1,17 @@
+pub mod Apart
+pub mod Equalities
+pub mod Fewer
 pub mod Fitting
 pub mod Histories
+pub mod Ids
+pub mod ListLaws
+pub mod Names
 pub mod Orders
+pub mod Pairwise
 pub mod Placed
 pub mod Replies
+pub mod Reports
 pub mod Sound
+pub mod Standing
 pub mod Trading
+pub mod WalkLaws

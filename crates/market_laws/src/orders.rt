@@ -1,7 +1,13 @@
 //! Laws of the orders of a book.
-ghost use Rattle.market_laws.specs.Fitting.{NewTradesFit, QuoteTradesFit, RowsArePlaced};
+ghost use Rattle.market_laws.specs.Fitting.{
+  NewTradesFit,
+  QuoteTradesFit,
+  ReplaceTradesFit,
+  RowsArePlaced,
+};
 ghost use Rattle.market_laws.specs.Orders.{CumIsSumOfTrades};
 ghost use Rattle.market_laws.specs.Sound.{BookIsSound};
+ghost use Rattle.market_laws.specs.Standing.{RowsStand};
 
 /// Each order's CumQty is the sum of the trades that the reports tell of it, by the event of its New.
 // Rules out a trade that is told and not added to its order, one that is added and not told, a Replace that loses or
@@ -41,4 +47,21 @@ pub fn quote_trades_fit()
 // Rules out a New that trades more than its quantity, and one that takes more from a resting order than it has left.
 pub fn new_trades_fit()
     ensures { NewTradesFit }
+{}
+
+/// The trades of a Replace that breaks no rule, where its order enters anew at the next event, fit: both orders of each are
+/// there, and have its shares left when it is made.
+// Rules out a Replace whose order trades again what it had traded before, and one that trades with the row that it
+// replaces.
+pub fn replace_trades_fit()
+    ensures { ReplaceTradesFit }
+{}
+
+/// The row of each order is the one with which it entered last, by its New or by a Replace that entered it anew. It has left
+/// the quantity without CumQty, and is marked as traded where CumQty is above 0. An order has no row where it is filled or
+/// canceled, and where it may not rest.
+// Rules out an order with shares left that lost its row, a row of a filled or canceled order, and one whose key, limit,
+// minimum, method, member or entry changes while it rests.
+pub fn rows_stand()
+    ensures { RowsStand }
 {}

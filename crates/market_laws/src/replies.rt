@@ -1,5 +1,6 @@
 //! Laws of what an event reports.
-ghost use Rattle.market_laws.specs.Replies.{ReportsAreInPlace, NewIsAnsweredOnce};
+ghost use Rattle.market_laws.specs.Replies.{NewIsAnsweredOnce, ReportsAreInPlace};
+ghost use Rattle.market_laws.specs.Reports.{ReportsAreFew};
 
 /// Each event's reports have its number and its moment, and the places 1, 2, 3 and so on.
 // Rules out a place that is left out or given twice, and a report that is numbered by another event.
@@ -13,4 +14,11 @@ pub fn reports_are_in_place()
 // a rejection without a rule or by another rule than the first one broken.
 pub fn new_is_answered_once()
     ensures { NewIsAnsweredOnce }
+{}
+
+/// The reports of a history, with two more for each row that rests after it, are at most four for each event.
+// Rules out an event that tells more than two reports beside those of its trades, a trade that is told more than twice,
+// and more trades than the rows that they empty and one for each order that enters.
+pub fn reports_are_few()
+    ensures { ReportsAreFew }
 {}
