@@ -6,7 +6,9 @@ use crate::Engine;
 use eager_meaning::Fill;
 use std::alloc::Global;
 use std::sync::ledger::Ledger;
-use venue_words::{Best, Key, Method, NoMemory, PRICE_END, Reference, Rounding, Row, Side, Steps, value};
+use venue_words::{
+    Best, Key, Method, NoMemory, PRICE_END, Reference, Rounding, Row, Side, Steps, value,
+};
 
 /// An order of a test.
 #[derive(Clone, Copy, Debug)]
