@@ -1,0 +1,13 @@
+pub mod AfterTrades
+pub mod Changes
+pub mod Enters
+pub mod Fewer
+pub mod Kept
+pub mod KeyCounts
+pub mod Rechecks
+pub mod SetAside
+pub mod Stages
+pub mod SideRows
+pub mod Standing
+pub mod Trades
+pub mod Turns

@@ -1,0 +1,5 @@
+pub mod Aside
+pub mod BothSides
+pub mod Rooms
+pub mod SidesView
+pub mod Sweeping
