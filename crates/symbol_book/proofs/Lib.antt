@@ -1,0 +1,14 @@
+pub mod Accepting
+pub mod Bounds
+pub mod Conditions
+pub mod Fits
+pub mod Keeping
+pub mod LiveRows
+pub mod Naming
+pub mod Numbers
+pub mod Reporting
+pub mod Requests
+pub mod Rules
+pub mod SameBest
+pub mod SmallOrders
+pub mod UsedNames

@@ -1,0 +1,12 @@
+use Rattle.std.proofs.Common.{◌∙◌, ap}
+use Rattle.std.specs.Prelude.{option_map}
+use Rattle.symbol_book.specs.Ids.{IdList, entry_of}
+use Rattle.symbol_book.proofs.UsedNames.{order_is}
+use Rattle.symbol_book.proofs.ids.UsedIds.order.Goals as goal
+
+pub returns : goal.returns
+returns c =
+    c.copied.ensures
+    ∙ (c.get.ensures.value
+    ∙ (order_is c.args.id.now c.self.inside.index.entries
+    ∙ ap (λ (r : IdList). option_map (λ e. e.order) (entry_of c.args.id.now.member c.args.id.now.id.items r.entries)) c.self.view_is))

@@ -1,0 +1,15 @@
+use Rattle.std.proofs.Common.{◌<◌, ◌^◌, arith}
+use Rattle.std.proofs.lemmas.List.Elements.{All-set}
+use Rattle.symbol_book.specs.Orders.{IsSmall}
+use Rattle.symbol_book.proofs.SmallOrders.{at_place, traded_small}
+use Rattle.symbol_book.proofs.trading.add_trade.Goals as goal
+
+pub returns-clause-small : goal.returns-clause-small
+returns-clause-small c =
+    let order = c.index_mut-order.result.now in
+    let low : c.args.fill.price < 2 ^ 32 = omega arith in
+    let small = at_place IsSmall c.args.orders.now.items c.args.number order c.requires.small c.requires.left.here c.index_mut-order.ensures.value in
+    let left = c.requires.left.left order in
+    All-set IsSmall c.args.orders.now.items c.args.number _
+    (rw (c.from.ensures, c.from-2.ensures) (traded_small order c.args.fill.price c.args.fill.quantity small (rw c.index_mut-order.ensures.value left) low))
+    c.requires.small

@@ -1,0 +1,16 @@
+pub mod Book
+pub mod Buffers
+pub mod Changes
+pub mod Commands
+pub mod Finding
+pub mod Fitting
+pub mod Growing
+pub mod Ids
+pub mod Log
+pub mod Market
+pub mod Orders
+pub mod Room
+pub mod Rows
+pub mod Setting
+pub mod State
+pub mod Worked

@@ -1,0 +1,277 @@
+//! A book over any matching engine.
+use crate::hashing::HashSeed;
+use crate::ids::UsedIds;
+use crate::log::ReportLog;
+use crate::preparing::{key_for, make_room, room_for};
+use crate::room::Room;
+use crate::taking::takes_command;
+use crate::working::work;
+use best_prices::Markets;
+use eager_meaning::Order;
+use market_laws::{
+    book_is_sound, bought_shares_are_sold, cum_is_sum_of_trades, new_is_answered_once,
+    new_trades_fit, quote_trades_fit, replace_trades_fit, reports_are_few, rows_stand,
+    trades_are_within_quote,
+};
+use match_core::Engine;
+use std::alloc::Global;
+use std::marker::Model;
+use std::sync::ledger::Ledger;
+use venue_words::{Command, Event, FloorRefusal, Key, NoMemory, Report, Row, Steps};
+
+/// The book of one symbol over a matching engine. It is seen as its journal and what that makes: the state and the reports
+/// are always those of the market's rules for the journal.
+#[derive(Drop)]
+pub struct BookOver<E: Engine + Drop> {
+    alloc: Global,
+    tick: u32,
+    limit: u32,
+    markets: Markets,
+    engine: E,
+    orders: Vec<Order>,
+    entered: Vec<Option<Row>>,
+    ids: UsedIds,
+    log: ReportLog,
+    journal: Vec<Event>,
+    ready: Option<Option<Key>>,
+}
+
+impl<E: Engine + Drop> Model for BookOver<E> {
+    ghost use Rattle.std.specs.Prelude.{◌≡◌, ◌+◌, ◌-◌, ◌++◌, Option, Some, length, vec_len};
+    ghost use Rattle.std.specs.Vec.{vec_capacity};
+    ghost use Rattle.venue_words.specs.declared.row.Key.{Key};
+    ghost use Rattle.eager_meaning.specs.Work.{key_count};
+    ghost use Rattle.symbol_book.specs.Book.{BookView, IsKept};
+    ghost use Rattle.symbol_book.specs.Commands.{IsNarrow};
+    ghost use Rattle.symbol_book.specs.Room.{HasPlaces};
+
+    ghost Value = { BookView };
+
+    ghost view = { λ b. record {
+      markets = length b.markets;
+      tick = b.tick;
+      limit = b.limit;
+      journal = b.journal.items;
+      reports = b.log.list;
+      ready = b.ready;
+    } };
+
+    ghost invariant = { λ b. IsKept b.tick b.limit b.markets (E.buys b.engine) (E.sells b.engine) (E.best b.engine)
+        (E.latest b.engine) b.orders.items b.entered.items b.ids b.log b.journal.items
+        × ((key : Option Key) → b.ready ≡ Some key → E.ready b.engine key
+        × HasPlaces (length (E.buys b.engine) + length (E.sells b.engine)) (vec_capacity b.orders - vec_len b.orders)
+        (vec_capacity b.entered - vec_len b.entered) b.ids.room (vec_capacity b.journal - vec_len b.journal) b.log
+        × IsNarrow key (E.width b.engine) (key_count (E.buys b.engine ++ E.sells b.engine))) };
+}
+
+impl<E: Engine + Drop> BookOver<E> {
+    ghost use Rattle.std.specs.Prelude.{◌≡◌, ℕ, ◌+◌, ◌<◌, ◌≤◌, ◌++◌, ◌∷◌, [], Some, None, true, length, slice_get, OnOk, IfOk, IfErr};
+    ghost use Rattle.venue_words.specs.Conditions.{IsTick, most_events};
+    ghost use Rattle.venue_words.specs.Journals.{IfFull};
+    ghost use Rattle.venue_words.specs.declared.price.Side.TheVariants.{Buy, Sell};
+    ghost use Rattle.eager_meaning.specs.Step.{runs};
+    ghost use Rattle.eager_meaning.specs.Work.{bound, groups};
+    ghost use Rattle.eager_meaning.specs.declared.order.Order.{Order};
+    ghost use Rattle.market_laws.specs.Orders.{shares_told_of};
+    ghost use Rattle.market_laws.specs.Sound.{IsSound};
+    ghost use Rattle.market_laws.specs.Trading.{shares_traded};
+    ghost use Rattle.symbol_book.specs.Commands.{takes_command, key_for};
+    ghost use Rattle.symbol_book.specs.Market.{TradesWithinQuote, EachNewAnswered};
+    ghost use Rattle.symbol_book.specs.Room.{IsRoomFor};
+    ghost use Rattle.symbol_book.specs.Setting.{setting_of, markets_in, tick_in};
+
+    /// A book without events, over an engine without rows: so many markets, a limit of events, and a tick of 2 or 10 units of
+    /// 0.005.
+    pub fn over(
+        alloc: Global,
+        engine: E,
+        seed: HashSeed,
+        markets: u32,
+        limit: u32,
+        tick: u32,
+    ) -> Result<BookOver<E>, NoMemory>
+        requires limit { limit ≤ most_events }
+        requires tick { IsTick tick }
+        requires buys { E.buys engine ≡ [] }
+        requires sells { E.sells engine ≡ [] }
+        requires best { E.best engine ≡ record { bid = None; offer = None } }
+        requires latest { E.latest engine ≡ 0 }
+        ensures same { IfOk result (λ book. (book.markets ≡ markets) × (book.tick ≡ tick) × (book.limit ≡ limit)) }
+        ensures empty { IfOk result (λ book. (book.journal ≡ []) × (book.reports ≡ [])) }
+    {
+        let markets = Markets::new(alloc, markets)?;
+        Ok(BookOver {
+            alloc,
+            tick,
+            limit,
+            markets,
+            engine,
+            orders: Vec::new(alloc),
+            entered: Vec::new(alloc),
+            ids: UsedIds::new(alloc, seed),
+            log: ReportLog::new(alloc),
+            journal: Vec::new(alloc),
+            ready: None,
+        })
+    }
+
+    /// The reports of all events: those that the market's rules make of the journal.
+    pub fn reports(&self) -> &[Report]
+        ensures list { result.now ≡ self.now.reports }
+        ensures runs { result.now ≡ (runs self.now.markets self.now.tick self.now.journal).reports }
+
+        // Shares are neither made nor lost, each order's CumQty is the sum of its trades, and its quantity is CumQty plus
+        // leaves while it is live.
+        ensures shares { shares_traded Buy result.now ≡ shares_traded Sell result.now }
+        ensures sums { (k : ℕ) (order : Order) → slice_get
+            (runs self.now.markets self.now.tick self.now.journal).state.orders k ≡ Some order
+            → order.cum ≡ shares_told_of order.first result.now }
+        ensures sound { IsSound (length self.now.journal) (runs self.now.markets self.now.tick self.now.journal).state }
+
+        // No trade is outside the national quote after its event, and each New has one answer, first.
+        ensures within { TradesWithinQuote self.now.markets self.now.tick self.now.journal }
+        ensures answered { EachNewAnswered self.now.markets self.now.tick self.now.journal }
+    {
+        bought_shares_are_sold();
+        cum_is_sum_of_trades();
+        book_is_sound();
+        trades_are_within_quote();
+        new_is_answered_once();
+        self.log.as_slice()
+    }
+
+    /// The events, in their order.
+    pub fn journal(&self) -> &[Event]
+        ensures { result.now ≡ self.now.journal }
+    {
+        self.journal.as_slice()
+    }
+
+    /// How many orders rest.
+    pub fn resting(&self) -> u32
+        ensures { result ≡ length (runs self.now.markets self.now.tick self.now.journal).state.buys
+            + length (runs self.now.markets self.now.tick self.now.journal).state.sells }
+    {
+        book_is_sound();
+        self.engine.len() as u32
+    }
+
+    /// How many peg groups rest: the different keys of the resting orders.
+    pub fn groups(&self) -> u32
+        ensures { result ≡ groups (runs self.now.markets self.now.tick self.now.journal).state }
+    {
+        book_is_sound();
+        self.engine.groups() as u32
+    }
+
+    /// Whether it takes a command: prices of quotes are from 0.01 to 19,999.99, ids have at most 64 bytes, and a quote is of a
+    /// market that is there.
+    pub fn takes(&self, command: &Command) -> bool
+        ensures { result ≡ takes_command self.now.markets command.now }
+    {
+        takes_command(self.markets.len(), command)
+    }
+
+    /// How many reports there are.
+    pub(crate) fn front(&self) -> u32
+        ensures { result ≡ length self.now.reports }
+    {
+        reports_are_few();
+        self.log.as_slice().len() as u32
+    }
+
+    /// The number of the next event.
+    pub(crate) fn next_number(&self) -> u32
+        ensures { result ≡ length self.now.journal + 1 }
+    {
+        self.journal.len() as u32 + 1
+    }
+
+    /// The allocator of copies.
+    pub(crate) fn alloc(&self) -> Global {
+        self.alloc
+    }
+
+    /// The markets and the tick can be read from the setting.
+    pub(crate) fn parts_of_setting(&self)
+        ensures markets { markets_in (setting_of self.now.markets self.now.tick) ≡ self.now.markets }
+        ensures tick { tick_in (setting_of self.now.markets self.now.tick) ≡ self.now.tick }
+    {
+        let _tick = self.tick;
+    }
+
+    /// Makes all room that a command can need, so that `apply` takes no memory. Room stays from event to event, and only what
+    /// is missing is added. `Full` comes where the journal holds its limit. A refusal leaves the journal and the reports.
+    pub fn prepare(&mut self, command: &Command) -> Result<Room, FloorRefusal>
+        requires takes { takes_command self.old.markets command.now ≡ true }
+        ensures same { (self.new.markets ≡ self.old.markets) × (self.new.tick ≡ self.old.tick) × (self.new.limit
+            ≡ self.old.limit) }
+        ensures journal { self.new.journal ≡ self.old.journal }
+        ensures reports { self.new.reports ≡ self.old.reports }
+        ensures ready { OnOk result (self.new.ready ≡ Some (key_for self.old.tick command.now)) }
+        ensures room { IfOk result (λ room. IsRoomFor command.now room) }
+        ensures below { OnOk result (length self.old.journal < self.old.limit) }
+        ensures full { IfErr result (IfFull (λ found. (found ≡ length self.old.journal) × (found ≡ self.old.limit))) }
+    {
+        if self.journal.len() >= self.limit as usize {
+            return Err(FloorRefusal::Full { found: self.limit });
+        }
+        let Ok(room) = room_for(self.alloc, command) else {
+            return Err(FloorRefusal::NoMemory);
+        };
+        book_is_sound();
+        let key = key_for(self.tick, command);
+        let rows = self.engine.len();
+        self.ready = None;
+        let made = make_room(
+            self.alloc,
+            key,
+            rows,
+            &mut self.engine,
+            &mut self.orders,
+            &mut self.entered,
+            &mut self.ids,
+            &mut self.log,
+            &mut self.journal,
+        );
+        if made.is_err() {
+            return Err(FloorRefusal::NoMemory);
+        }
+        self.ready = Some(key);
+        Ok(room)
+    }
+
+    /// Works an event for which there is room, and reports what the market's rules make of it. It takes no memory.
+    pub fn apply<L: Ledger>(&mut self, room: Room, event: Event, steps: &mut Steps<L>)
+        requires takes { takes_command self.old.markets event.command ≡ true }
+        requires number { event.number ≡ length self.old.journal + 1 }
+        requires below { length self.old.journal < self.old.limit }
+        requires ready { self.old.ready ≡ Some (key_for self.old.tick event.command) }
+        requires room { IsRoomFor event.command room }
+        ensures same { (self.new.markets ≡ self.old.markets) × (self.new.tick ≡ self.old.tick) × (self.new.limit
+            ≡ self.old.limit) }
+        ensures journal { self.new.journal ≡ self.old.journal ++ event ∷ [] }
+        ensures most { steps.new ≤ steps.old + bound self.old.tick
+            (runs self.old.markets self.old.tick self.old.journal).state event.number event.command }
+    {
+        book_is_sound();
+        rows_stand();
+        quote_trades_fit();
+        new_trades_fit();
+        replace_trades_fit();
+        work(
+            self.tick,
+            &mut self.markets,
+            &mut self.engine,
+            &mut self.orders,
+            &mut self.entered,
+            &mut self.ids,
+            &mut self.log,
+            &event,
+            room,
+            steps,
+        );
+        self.journal.push_reserved(event);
+        self.ready = None;
+    }
+}

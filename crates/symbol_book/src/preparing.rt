@@ -1,0 +1,101 @@
+//! Room for one event.
+ghost use Rattle.std.specs.Prelude.{◌≡◌, ◌+◌, ◌-◌, ◌*◌, ◌^◌, ◌<◌, ◌≤◌, ◌++◌, OnOk, IfOk, vec_len};
+ghost use Rattle.std.specs.Option.{ForSome};
+ghost use Rattle.std.specs.Vec.{vec_capacity};
+ghost use Rattle.venue_words.specs.Conditions.{IsTick, IsKey};
+ghost use Rattle.eager_meaning.specs.Work.{key_count};
+ghost use Rattle.symbol_book.specs.Commands.{IsNarrow, key_for};
+ghost use Rattle.symbol_book.specs.Room.{CopiesOwn, CopiesOrig, IsRoomFor, HasPlaces};
+
+use crate::ids::{ClOrdId, UsedIds};
+use crate::log::ReportLog;
+use crate::room::Room;
+use eager_meaning::{Order, key_of};
+use match_core::Engine;
+use std::alloc::{AllocError, Global};
+use venue_words::{Bytes, Command, Event, Key, NoMemory, Row};
+
+/// Copies of two ids of a member.
+fn copies(alloc: Global, member: u32, id: &[u8], orig: &[u8]) -> Result<Room, AllocError>
+    ensures own { IfOk result (λ room. CopiesOwn member id.now room) }
+    ensures orig { IfOk result (λ room. CopiesOrig member orig.now room) }
+{
+    let own = Vec::from_slice(alloc, id)?;
+    let order = Bytes::copy_of(alloc, id)?;
+    let shown = Bytes::copy_of(alloc, id)?;
+    let named = Vec::from_slice(alloc, orig)?;
+    Ok(Room {
+        own: ClOrdId { member, id: own },
+        order,
+        shown,
+        orig: ClOrdId { member, id: named },
+    })
+}
+
+/// The copies that a command wants.
+pub fn room_for(alloc: Global, command: &Command) -> Result<Room, AllocError>
+    ensures { IfOk result (λ room. IsRoomFor command.now room) }
+{
+    match command {
+        Command::Quote { .. } => copies(alloc, 0, &[], &[]),
+        Command::New { member, id, .. } => copies(alloc, *member, id.as_slice(), &[]),
+        Command::Cancel { member, id, orig }
+        | Command::Replace {
+            member,
+            id,
+            orig,
+            ..
+        } => copies(alloc, *member, id.as_slice(), orig.as_slice()),
+        Command::Status { member, id, .. } => copies(alloc, *member, &[], id.as_slice()),
+    }
+}
+
+/// The key of the row that a command may enter.
+pub fn key_for(tick: u32, command: &Command) -> Option<Key>
+    requires { IsTick tick }
+    ensures key { result ≡ key_for tick command.now }
+    ensures fits { ForSome result IsKey }
+{
+    match command {
+        Command::New { terms, .. } | Command::Replace { terms, .. } => Some(key_of(tick, terms)),
+        _ => None,
+    }
+}
+
+/// Makes the room of a book of so many rows for one event. Only what is missing is added.
+pub fn make_room<E: Engine>(
+    alloc: Global,
+    key: Option<Key>,
+    rows: usize,
+    engine: &mut E,
+    orders: &mut Vec<Order>,
+    entered: &mut Vec<Option<Row>>,
+    ids: &mut UsedIds,
+    log: &mut ReportLog,
+    journal: &mut Vec<Event>,
+) -> Result<(), NoMemory>
+    requires rows { 2 * rows + 4 < 2 ^ 63 }
+    requires key { ForSome key IsKey }
+    ensures orders { orders.new.items ≡ orders.old.items }
+    ensures entered { entered.new.items ≡ entered.old.items }
+    ensures ids { ids.new.entries ≡ ids.old.entries }
+    ensures reports { log.new.list ≡ log.old.list }
+    ensures journal { journal.new.items ≡ journal.old.items }
+    ensures buys { E.buys engine.new ≡ E.buys engine.old }
+    ensures sells { E.sells engine.new ≡ E.sells engine.old }
+    ensures best { E.best engine.new ≡ E.best engine.old }
+    ensures latest { E.latest engine.new ≡ E.latest engine.old }
+    ensures ready { OnOk result (E.ready engine.new key) }
+    ensures narrow { OnOk result (IsNarrow key (E.width engine.new) (key_count
+        (E.buys engine.new ++ E.sells engine.new))) }
+    ensures room { OnOk result (HasPlaces rows (vec_capacity orders.new - vec_len orders.new)
+        (vec_capacity entered.new - vec_len entered.new) ids.new.room
+        (vec_capacity journal.new - vec_len journal.new) log.new) }
+{
+    orders.reserve(1)?;
+    entered.reserve(1)?;
+    ids.reserve()?;
+    journal.reserve(1)?;
+    log.reserve(alloc, 2 * rows + 4, 2 * rows + 3)?;
+    engine.reserve(key)
+}

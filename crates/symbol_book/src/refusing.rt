@@ -1,0 +1,121 @@
+//! Requests that break a rule.
+ghost use Rattle.std.specs.Prelude.{◌≡◌, ◌<◌, ◌∷◌, [], List, Option, IfSome, length};
+ghost use Rattle.std.specs.Option.{option_map_or};
+ghost use Rattle.venue_words.specs.Conditions.{IsTick};
+ghost use Rattle.venue_words.specs.declared.row.Priced.{Priced};
+ghost use Rattle.eager_meaning.specs.declared.order.Live.{Live};
+ghost use Rattle.eager_meaning.specs.Changing.{refusal};
+ghost use Rattle.eager_meaning.specs.Orders.{is_used, known_of};
+ghost use Rattle.eager_meaning.specs.Showing.{live_state};
+ghost use Rattle.eager_meaning.specs.Verdict.{verdict};
+ghost use Rattle.symbol_book.specs.Finding.{IsFound};
+ghost use Rattle.symbol_book.specs.Ids.{used_of};
+ghost use Rattle.symbol_book.specs.Log.{Reports};
+
+use crate::finding::Found;
+use crate::ids::{ClOrdId, UsedIds};
+use crate::log::ReportLog;
+use crate::showing::live_state;
+use eager_meaning::{Known, Order, verdict};
+use venue_words::{Bytes, Event, Kind, Rule, Side};
+
+/// What the rules ask of the book, for a request that names this live order, or none.
+#[tactic(auto, unfolding(eager_meaning::specs::Orders::known_of))]
+fn known_of(tick: u32, used: bool, live: Option<Found>, orders: &[Order]) -> Known
+    requires here { IfSome live (λ found. found.number < length orders.now) }
+    ensures known { (rows : List Priced) (is : Option Live) → IsFound orders.now rows is live → result
+        ≡ known_of tick used is }
+    ensures tick { result.tick ≡ tick }
+{
+    match live {
+        Some(found) => {
+            let order = &orders[found.number as usize];
+            Known {
+                used,
+                live: true,
+                side: order.side,
+                cum: order.cum,
+                tick,
+            }
+        }
+        None => Known {
+            used,
+            live: false,
+            side: Side::Buy,
+            cum: 0,
+            tick,
+        },
+    }
+}
+
+/// The first rule that a Cancel or a Replace breaks, or none.
+pub fn rule_of_request(
+    tick: u32,
+    ids: &UsedIds,
+    own: &ClOrdId,
+    live: Option<Found>,
+    orders: &[Order],
+    event: &Event,
+) -> Option<Rule>
+    requires tick { IsTick tick }
+    requires here { IfSome live (λ found. found.number < length orders.now) }
+    ensures { (rows : List Priced) (is : Option Live) → IsFound orders.now rows is live
+        → result ≡ verdict event.now.command (known_of tick (is_used own.now.member own.now.id.items
+        (used_of ids.now.entries)) is) }
+{
+    let known = known_of(tick, ids.contains(own), live, orders);
+    verdict(&event.command, &known)
+}
+
+/// A Cancel (answer `1`) or a Replace (answer `2`) is refused.
+pub fn refuse(
+    log: &mut ReportLog,
+    event: &Event,
+    member: u32,
+    answer: u8,
+    id: Bytes,
+    orig: Bytes,
+    live: Option<Found>,
+    orders: &[Order],
+    rule: Rule,
+) -> u32
+    requires here { IfSome live (λ found. found.number < length orders.now) }
+    requires places { 0 < log.old.places }
+    ensures reports { (rows : List Priced) (is : Option Live) → IsFound orders.now rows is live
+        → Reports event.now log.old.list 1 (record { member = member; kind = refusal answer id orig is rule } ∷ [])
+        log.new.list result }
+{
+    let (first, state) = first_and_state(live, orders);
+    log.push(
+        event,
+        1,
+        member,
+        Kind::Refused {
+            id,
+            orig,
+            first,
+            state,
+            answer,
+            rule,
+        },
+    )
+}
+
+/// The event of the New of a live order and the code of its state; 0 and `8` where there is none.
+fn first_and_state(live: Option<Found>, orders: &[Order]) -> (u32, u8)
+    requires here { IfSome live (λ found. found.number < length orders.now) }
+    ensures { (rows : List Priced) (is : Option Live) → IsFound orders.now rows is live
+        → result ≡ (
+          option_map_or (λ found. found.order.first) is 0,
+          option_map_or
+              (λ found. live_state found.order) is 56,
+        ) }
+{
+    match live {
+        Some(found) => {
+            let order = &orders[found.number as usize];
+            (order.first, live_state(order))
+        }
+        None => (0, b'8'),
+    }
+}

@@ -1,0 +1,43 @@
+//! Which commands a book takes.
+ghost use Rattle.std.specs.Prelude.{◌≡◌};
+ghost use Rattle.venue_words.specs.Conditions.{fits_id, fits_quote};
+ghost use Rattle.symbol_book.specs.Commands.{takes_command};
+
+use venue_words::{Bytes, Command};
+
+/// The greatest price of a quote in cents, and the greatest length of an id.
+const MOST_CENTS: u32 = 1_999_999;
+
+const LONGEST_ID: usize = 64;
+
+fn fits_quote(price: Option<u32>) -> bool
+    ensures { result ≡ fits_quote price }
+{
+    match price {
+        None => true,
+        Some(cents) => 1 <= cents && cents <= MOST_CENTS,
+    }
+}
+
+fn fits_id(id: &Bytes) -> bool
+    ensures { result ≡ fits_id id.now }
+{
+    id.as_slice().len() <= LONGEST_ID
+}
+
+/// Whether a book of so many markets takes a command: prices of quotes are from 0.01 to 19,999.99, ids have at most 64 bytes, and
+/// a quote is of a market that is there.
+pub fn takes_command(markets: usize, command: &Command) -> bool
+    ensures { result ≡ takes_command markets command.now }
+{
+    match command {
+        Command::Quote { market, bid, offer } => {
+            fits_quote(*bid) && fits_quote(*offer) && (*market as usize) < markets
+        }
+        Command::New { id, .. } => fits_id(id),
+        Command::Cancel { id, orig, .. } | Command::Replace { id, orig, .. } => {
+            fits_id(id) && fits_id(orig)
+        }
+        Command::Status { id, .. } => fits_id(id),
+    }
+}
