@@ -38,7 +38,8 @@ impl<V: Held> Model for PlainVenue<V> {
 }
 
 impl<V: Held + Drop> PlainVenue<V> {
-    /// Makes a venue of books, one for each symbol of the config, in its order.
+    /// Makes a venue of books, one for each symbol of the config, in its order. Where memory is wanting, the
+    /// books are dropped.
     pub fn from_books(
         alloc: Global,
         config: &Config,

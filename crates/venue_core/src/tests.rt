@@ -21,17 +21,17 @@ use venue_words::{
     Bytes, Command, Config, Event, Floor, FloorRefusal, Held, Items, Look, NoMemory, Steps,
 };
 
-// Seats, and the feed whose commands go through them.
+// A floor, and the feed whose commands go through it.
 #[derive(Drop)]
-struct Share {
-    seats: Seats,
+struct Share<'a, R: Wait, V: Held> {
+    floor: Seated<'a, R, V>,
     feed: u32,
 }
 
-// What a thread hands back: its seats, and how many commands were recorded.
+// What a thread hands back: its floor, and how many commands were recorded.
 #[derive(Drop)]
-struct Worked {
-    seats: Seats,
+struct Worked<'a, R: Wait, V: Held> {
+    floor: Seated<'a, R, V>,
     recorded: u32,
 }
 
@@ -70,118 +70,129 @@ fn submit_all<F: Floor, L: Ledger>(
     recorded
 }
 
-fn work_counted<R: Wait, V: Held + Drop, L: Ledger>(
-    rt: &R,
+fn work_counted<'a, R: Wait, V: Held + Drop, L: Ledger>(
     venue: &Venue<V>,
-    share: Share,
+    share: Share<'a, R, V>,
     count: u32,
     blank: Blank,
-) -> Worked
-    requires seats { AreSeatsOf venue.now share.seats }
-    requires parts { HaveParts 1 share.seats }
+) -> Worked<'a, R, V>
+    requires seats { AreSeatsOf venue.now share.floor.seats }
+    requires parts { HaveParts 1 share.floor.seats }
+    requires same { share.floor.venue.now ≡ venue.now }
     requires symbols { 3 ≤ length venue.now.gates }
     requires markets { 0 < venue.now.markets }
     requires count { count < 10000 }
     requires blank { (blank.name ≡ L.name) × (blank.parts ≡ L.parts) × (L.parts ≡ 1) }
-    ensures seats { AreSeatsOf venue.now result.seats }
-    ensures parts { HaveParts 1 result.seats }
+    ensures seats { AreSeatsOf venue.now result.floor.seats }
+    ensures parts { HaveParts 1 result.floor.seats }
 {
-    let Share { seats, feed } = share;
-    let mut floor = Seated { rt, venue, seats };
+    let Share { mut floor, feed } = share;
     let mut steps: Steps<L> = Steps::start(blank);
     let recorded = submit_all(&mut floor, feed, count, &mut steps);
-    Worked {
-        seats: floor.seats,
-        recorded,
-    }
+    Worked { floor, recorded }
 }
 
-// Submits commands through the share's seats.
-fn work<R: Wait, V: Held + Drop>(rt: &R, venue: &Venue<V>, share: Share, count: u32) -> Worked
-    requires seats { AreSeatsOf venue.now share.seats }
-    requires parts { HaveParts 1 share.seats }
+// Submits commands through the share's floor.
+fn work<'a, R: Wait, V: Held + Drop>(
+    venue: &Venue<V>,
+    share: Share<'a, R, V>,
+    count: u32,
+) -> Worked<'a, R, V>
+    requires seats { AreSeatsOf venue.now share.floor.seats }
+    requires parts { HaveParts 1 share.floor.seats }
+    requires same { share.floor.venue.now ≡ venue.now }
     requires symbols { 3 ≤ length venue.now.gates }
     requires markets { 0 < venue.now.markets }
     requires count { count < 10000 }
-    ensures seats { AreSeatsOf venue.now result.seats }
-    ensures parts { HaveParts 1 result.seats }
+    ensures seats { AreSeatsOf venue.now result.floor.seats }
+    ensures parts { HaveParts 1 result.floor.seats }
 {
-    work_counted::<R, V, Brand>(rt, venue, share, count, Blank::new(1))
+    work_counted::<R, V, Brand>(venue, share, count, Blank::new(1))
 }
 
-// Splits off `many` seats of each gate, for the feeds from 1 on.
-fn shares_of<V: Held + Drop>(
+// Makes `many` floors over the venue, for the feeds from 1 on.
+fn shares_of<'a, R: Wait, V: Held + Drop>(
+    rt: &'a R,
     alloc: Global,
-    venue: &Venue<V>,
+    venue: &'a Venue<V>,
     seats: &mut Seats,
     many: u32,
-) -> Result<Vec<Share>, NoMemory>
+) -> Result<Vec<Share<'a, R, V>>, NoMemory>
     requires seats { AreSeatsOf venue.now seats.old }
     requires parts { HaveParts whole seats.old }
     requires many { many < 1000 }
     ensures seats { OnOk result (AreSeatsOf venue.now seats.new) }
     ensures parts { OnOk result (HaveParts (whole - many) seats.new) }
     ensures many { IfOk result (λ shares. length shares.items ≡ many) }
-    ensures shares { IfOk result (λ shares.
-        All (λ share. AreSeatsOf venue.now share.seats × HaveParts 1 share.seats) shares.items) }
+    ensures shares { IfOk result (λ shares. All (λ share. (share.floor.venue.now ≡ venue.now)
+        × AreSeatsOf venue.now share.floor.seats × HaveParts 1 share.floor.seats) shares.items) }
 {
     let mut shares = Vec::new(alloc);
     for i in 0..many {
         let new = venue.split(alloc, seats)?;
-        shares.push(Share {
+        let floor = Seated {
+            rt,
+            venue,
             seats: new,
-            feed: i + 1,
-        })?;
+        };
+        shares.push(Share { floor, feed: i + 1 })?;
     }
     Ok(shares)
 }
 
 // Joins all seats, and answers how many commands were recorded.
-fn join_all<V: Held + Drop>(venue: &Venue<V>, seats: &mut Seats, others: Vec<Worked>) -> u64
+fn join_all<'a, R: Wait, V: Held + Drop>(
+    venue: &Venue<V>,
+    seats: &mut Seats,
+    others: Vec<Worked<'a, R, V>>,
+) -> u64
     requires seats { AreSeatsOf venue.now seats.old }
     requires parts { HaveParts (whole - length others.items) seats.old }
     requires many { length others.items < 1000 }
-    requires others { All (λ worked. AreSeatsOf venue.now worked.seats × HaveParts 1 worked.seats) others.items }
+    requires others { All (λ worked. AreSeatsOf venue.now worked.floor.seats × HaveParts 1 worked.floor.seats)
+        others.items }
     ensures seats { AreSeatsOf venue.now seats.new }
     ensures parts { HaveParts whole seats.new }
 {
     let mut recorded: u64 = 0;
     for worked in others {
         let Worked {
-            seats: other,
+            floor,
             recorded: more,
         } = worked;
-        venue.join(seats, other);
+        venue.join(seats, floor.seats);
         recorded = recorded.saturating_add(u64::from(more));
     }
     recorded
 }
 
-// Submits through each share in a thread of its own.
-fn work_all<R: Threads + Wait + Sync, V: Held + Drop + Send>(
-    rt: &R,
-    venue: &Venue<V>,
-    shares: Vec<Share>,
+// Works each share in a thread of its own.
+fn work_all<'a, R: Threads + Wait + Sync, V: Held + Drop + Send>(
+    rt: &'a R,
+    venue: &'a Venue<V>,
+    shares: Vec<Share<'a, R, V>>,
     count: u32,
-) -> Result<Vec<Worked>, AllocError>
+) -> Result<Vec<Worked<'a, R, V>>, AllocError>
     requires symbols { 3 ≤ length venue.now.gates }
     requires markets { 0 < venue.now.markets }
     requires count { count < 10000 }
-    requires shares { All (λ share. AreSeatsOf venue.now share.seats × HaveParts 1 share.seats) shares.items }
-    ensures many { IfOk result (λ others. length others.items ≡ length shares.items) }
+    requires shares { All (λ share. (share.floor.venue.now ≡ venue.now)
+        × AreSeatsOf venue.now share.floor.seats × HaveParts 1 share.floor.seats) shares.entry.items }
+    ensures many { IfOk result (λ others. length others.items ≡ length shares.entry.items) }
     ensures others { IfOk result (λ others.
-        All (λ worked. AreSeatsOf venue.now worked.seats × HaveParts 1 worked.seats) others.items) }
+        All (λ worked. AreSeatsOf venue.now worked.floor.seats × HaveParts 1 worked.floor.seats) others.items) }
 {
     map_vec(
         rt,
         shares,
-        &|share: Share| -> Worked
+        &|share: Share<'a, R, V>| -> Worked<'a, R, V>
             requires symbols { 3 ≤ length venue.now.gates }
             requires markets { 0 < venue.now.markets }
             requires count { count < 10000 }
-            requires share { AreSeatsOf venue.now share.seats × HaveParts 1 share.seats }
-            ensures { AreSeatsOf venue.entry.now result.seats × HaveParts 1 result.seats }
-        { work(rt, venue, share, count) },
+            requires share { (share.floor.venue.now ≡ venue.now)
+                × AreSeatsOf venue.now share.floor.seats × HaveParts 1 share.floor.seats }
+            ensures { AreSeatsOf venue.entry.now result.floor.seats × HaveParts 1 result.floor.seats }
+        { work(venue, share, count) },
     )
 }
 
@@ -201,7 +212,7 @@ fn run<R: Threads + Wait + Sync, V: Held + Drop + Send>(
     requires many { many < 1000 }
     requires count { count < 10000 }
 {
-    let shares = shares_of(alloc, &venue, &mut seats, many)?;
+    let shares = shares_of(rt, alloc, &venue, &mut seats, many)?;
     let others = work_all(rt, &venue, shares, count)?;
     let recorded = join_all(&venue, &mut seats, others);
     match venue.close(alloc, seats) {

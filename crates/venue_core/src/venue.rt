@@ -39,8 +39,8 @@ impl<V: Held> Model for Venue<V> {
 }
 
 impl<V: Held + Drop> Venue<V> {
-    /// Makes a venue of books, one for each symbol of the config, in its order, and the venue's seats, which
-    /// have all parts of the gates.
+    /// Makes a venue of books without events, one for each symbol of the config, in its order, and the venue's
+    /// seats, which have all parts of the gates. Where memory is wanting, the books are dropped.
     pub fn from_books(
         alloc: Global,
         config: &Config,

@@ -12,4 +12,4 @@ invariant-loop-worked g l =
     × HaveParts (whole - length l.worked-iterator.rest.items) l.seats
     × (length l.worked-iterator.rest.items < 1000)
     × (length l.worked-iterator.rest.items ≡ l.worked-iterator.rest.len)
-    × All (λ worked. AreSeatsOf l.venue worked.seats × HaveParts 1 worked.seats) l.worked-iterator.rest.items
+    × All (λ worked. AreSeatsOf l.venue worked.floor.seats × HaveParts 1 worked.floor.seats) l.worked-iterator.rest.items

@@ -9,4 +9,4 @@ use Rattle.venue_core.proofs.tests.shares_of.Given as goal
 abbrev pub invariant-loop-i : goal.invariant-loop-i
 invariant-loop-i g l =
     AreSeatsOf l.venue l.seats × HaveParts (whole - l.i) l.seats × (length l.shares.items ≡ l.i)
-    × All (λ share. AreSeatsOf l.venue share.seats × HaveParts 1 share.seats) l.shares.items
+    × All (λ share. (share.floor.venue.now ≡ l.venue) × AreSeatsOf l.venue share.floor.seats × HaveParts 1 share.floor.seats) l.shares.items
