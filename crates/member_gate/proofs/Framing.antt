@@ -1,5 +1,5 @@
 -- What the framer's answers say, and how the replies of a frame are added.
-use Rattle.std.proofs.Common.{◌≡◌, ℕ, ◌+◌, ◌<◌, ◌≤◌, ℤ, List, [], ◌∷◌, ◌++◌, length, drop, Some, sym, ◌∙◌, ap, subst, arith, append_assoc, length-drop}
+use Rattle.std.proofs.Common.{◌≡◌, ℕ, ◌+◌, ◌<◌, ◌≤◌, ℤ, List, [], ◌∷◌, ◌++◌, length, drop, Some, sym, ◌∙◌, ap, arith, append_assoc, length-drop}
 use Rattle.std.specs.Option.{option_to_list}
 use Rattle.fix_fields.specs.declared.field.TheConstants.{LONGEST_FRAME}
 use Rattle.fix_frames.specs.FoundLaws.{whole_found}
@@ -9,8 +9,8 @@ use Rattle.venue_words.specs.declared.config.Config.{Config}
 use Rattle.session_core.specs.declared.message.Request.{Request}
 use Rattle.session_core.specs.declared.turn.Turn.{Turn}
 use Rattle.session_core.specs.Machine.{Machine, Outcome, on_frame}
-use Rattle.member_gate.specs.Answering.{Work, turned, answer}
-use Rattle.member_gate.specs.Working.{then_work, handed_out, work_of_frame}
+use Rattle.member_gate.specs.Answering.{answer}
+use Rattle.member_gate.specs.Working.{handed_out, work_of_frame}
 
 -- a frame that was given is not too long
 pub given_short : (old new : Stream) (frame : List ℕ) → HasGiven old new frame → length frame ≤ LONGEST_FRAME

@@ -1,5 +1,5 @@
 -- The floor of the tests, and their config.
-use Rattle.std.proofs.Common.{◌≡◌, ℕ, ◌++◌, ◌∷◌, [], List, refl, ap, inl, lit≤}
+use Rattle.std.proofs.Common.{ℕ, ◌++◌, ◌∷◌, [], List, refl, ap, inl, lit≤}
 use Rattle.std.specs.Prelude.{codes}
 use Rattle.std.specs.Str.{bytes_eq}
 use Rattle.std.specs.List.{IsDistinct}

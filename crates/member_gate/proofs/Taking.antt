@@ -8,7 +8,7 @@ use Rattle.venue_words.specs.Journals.{event, StartsWith}
 use Rattle.member_gate.specs.declared.refusal.DeskRefusal.{DeskRefusal}
 use Rattle.member_gate.specs.declared.refusal.DeskRefusal.TheVariants.{Full, NoMemory}
 use Rattle.member_gate.specs.Answering.{Submission}
-use Rattle.member_gate.specs.Submitting.{TookOne, TookAll, IsNextAt, Waited, TookNoSteps, IsFullNext, TookNone}
+use Rattle.member_gate.specs.Submitting.{TookOne, TookAll, Waited, TookNoSteps, IsFullNext, TookNone}
 
 starts_self : {A : Type 0} (xs : List A) → StartsWith xs xs
 starts_self xs = ([], sym (append-nil xs))

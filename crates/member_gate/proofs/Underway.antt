@@ -1,8 +1,8 @@
 -- How the work on a stream goes on, frame by frame, and how it ends.
-use Rattle.std.proofs.Common.{◌≡◌, ◌⊎◌, inl, inr, ℕ, ℤ, Bool, true, false, cond, List, [], ◌∷◌, ◌++◌, Option, refl, sym, ◌∙◌, ap, subst, append_assoc}
+use Rattle.std.proofs.Common.{◌≡◌, ◌⊎◌, inl, ℕ, ℤ, Bool, true, false, List, [], ◌∷◌, ◌++◌, Option, refl, sym, ◌∙◌, ap, subst, append_assoc}
 use Rattle.std.proofs.lemmas.List.{append-nil}
 use Rattle.fix_frames.specs.declared.reading.Reading.{Reading}
-use Rattle.fix_frames.specs.Reading.{none_yet, only_too_long, with_frames, reading_of}
+use Rattle.fix_frames.specs.Reading.{with_frames, reading_of}
 use Rattle.fix_frames.specs.ReadingLaws.{reading-given, reading-waited, reading-none, reading-exceeded, reading-exceeded_on}
 use Rattle.fix_frames.specs.Streams.{Stream, HasGiven, HasWaited, HasExceeded}
 use Rattle.venue_words.specs.declared.command.Event.{Event}

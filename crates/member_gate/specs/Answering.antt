@@ -1,5 +1,5 @@
 -- What a message that a session hands out gets: an answer that is framed at once, or a command for a symbol's book.
-use Rattle.std.specs.Prelude.{ℕ, ℤ, List, [], ◌∷◌, ◌++◌, Option, Some, None, slice_get, unwrap_or, codes, decimal, Result, Ok, Err}
+use Rattle.std.specs.Prelude.{ℕ, ℤ, List, [], ◌∷◌, ◌++◌, slice_get, unwrap_or, codes, decimal, Result, Ok, Err}
 use Rattle.fix_write.specs.declared.tags.TheConstants.{MSG_TYPE}
 use Rattle.fix_write.specs.Fields.{field}
 use Rattle.venue_words.specs.declared.command.Command.{Command}

@@ -1,8 +1,10 @@
 -- Laws of the work on a stream.
-use Rattle.std.specs.Prelude.{◌≡◌, ℕ, ℤ, false, List, ◌++◌}
+use Rattle.std.specs.Prelude.{◌≡◌, ◌↔◌, ◌⊎◌, ℕ, ℤ, false, List, [], ◌++◌}
 use Rattle.fix_frames.specs.Reading.{reading_of}
 use Rattle.venue_words.specs.declared.config.Config.{Config}
-use Rattle.session_core.specs.Machine.{Machine}
+use Rattle.session_core.specs.declared.message.Message.{Message}
+use Rattle.session_core.specs.Machine.{Machine, IsUp}
+use Rattle.session_core.specs.Runs.{send_if_up}
 use Rattle.member_gate.specs.Working.{then_work, work_of_reading, AreUnread}
 
 -- however a stream is cut in two: the work of the whole is that of the first bytes, and then that of what is unread of them
@@ -16,3 +18,9 @@ AnyCut =
     ≡ then_work (work_of_reading config member moment session (reading_of bytes))
     (work_of_reading config member moment (work_of_reading config member moment session (reading_of bytes)).session
     (reading_of (unread ++ more)))
+
+-- what is sent is nothing exactly where the session is not up or there are no messages
+abbrev pub EmptyExactly : Type 0
+EmptyExactly =
+    (session : Machine) (messages : List Message) (moment : ℤ)
+    → ((send_if_up session messages moment).turn.replies ≡ []) ↔ ((IsUp session → ⊥) ⊎ (messages ≡ []))

@@ -1,5 +1,5 @@
 -- What a floor over the plain program is seen as, for tests.
-use Rattle.std.specs.Prelude.{ℕ, ◌==◌, if◌then◌else◌, ℤ, pos, List, [], ◌∷◌, None, codes, slice_index, length}
+use Rattle.std.specs.Prelude.{ℕ, ◌==◌, if◌then◌else◌, pos, List, [], ◌∷◌, None, codes, slice_index, length}
 use Rattle.venue_words.specs.declared.command.Event.{Event}
 use Rattle.venue_words.specs.declared.config.Config.{Config}
 use Rattle.venue_words.specs.Floors.{SymbolView}

@@ -2,11 +2,9 @@
 use Rattle.std.specs.Prelude.{◌≡◌, ℕ, ◌+◌, ◌<◌, ◌≤◌, max, List, [], ◌∷◌, ◌++◌, map, length, slice_index}
 use Rattle.venue_words.specs.declared.config.Config.{Config}
 use Rattle.venue_words.specs.declared.report.Report.{Report}
-use Rattle.venue_words.specs.Floors.{SymbolView}
 use Rattle.venue_words.specs.Journals.{reports_of}
 use Rattle.session_core.specs.declared.message.Message.{Message}
 use Rattle.member_gate.specs.Answering.{name_at, message_of}
-use Rattle.member_gate.specs.Submitting.{Waited}
 
 -- how many reports of a symbol a desk has gone through: none where that was never set
 abbrev pub cursor_at : List ℕ → ℕ → ℕ

@@ -1,6 +1,5 @@
 -- What commands that are submitted to a floor do to it. A floor stands here with the count of steps so far.
 use Rattle.std.specs.Prelude.{◌≡◌, ◌≢◌, ℕ, ◌+◌, ◌≤◌, ℤ, List, [], ◌∷◌, ◌++◌, length, slice_index, Option}
-use Rattle.fix_frames.specs.declared.reading.Reading.{Reading}
 use Rattle.venue_words.specs.declared.command.Event.{Event}
 use Rattle.venue_words.specs.declared.config.Config.{Config}
 use Rattle.venue_words.specs.Floors.{FloorMark, SymbolView, Records, AddsNone, TurnsRose, TurnsKept, CostsAtMost, CostsNothing}

@@ -4,8 +4,8 @@ use Rattle.fix_frames.specs.declared.reading.Reading.{Reading}
 use Rattle.fix_frames.specs.Reading.{with_frames, reading_of}
 use Rattle.venue_words.specs.declared.config.Config.{Config}
 use Rattle.session_core.specs.declared.message.Request.{Request}
-use Rattle.session_core.specs.Machine.{Machine, Outcome, on_frame, on_overlong, given_up}
-use Rattle.member_gate.specs.Answering.{Submission, Work, idle, turned, answer}
+use Rattle.session_core.specs.Machine.{Machine, on_frame, on_overlong, given_up}
+use Rattle.member_gate.specs.Answering.{Work, idle, turned, answer}
 
 -- one work and then another, which began with the session behind the first
 abbrev pub then_work : Work → Work → Work

@@ -51,10 +51,12 @@ fn answer_stray(
     report: &Report,
 ) -> Result<Bytes, NoMemory>
     requires { IsUp session.old }
-    ensures session { OnOk result (session.new ≡ (answer_stray
-        (name_at origin.entry.config.now.members origin.entry.member) origin.entry.moment session.old request.now report.now).session) }
-    ensures reply { IfOk result (λ frame. frame ∷ [] ≡ (answer_stray
-        (name_at origin.entry.config.now.members origin.entry.member) origin.entry.moment session.old request.now report.now).replies) }
+    ensures session { OnOk result (session.new
+        ≡ (answer_stray (name_at origin.entry.config.now.members origin.entry.member) origin.entry.moment
+        session.old request.now report.now).session) }
+    ensures reply { IfOk result (λ frame. frame ∷ []
+        ≡ (answer_stray (name_at origin.entry.config.now.members origin.entry.member) origin.entry.moment
+        session.old request.now report.now).replies) }
     ensures err { OnErr result (session.new ≡ session.old) }
 {
     let symbol = text_in(SYMBOL, request.fields.as_slice());
@@ -87,7 +89,8 @@ pub fn answer<F: Floor, L: Ledger>(
     ensures took { OnOk result (TookAll F.at F.step_limit (F.mark floor.old) origin.entry.feed origin.entry.moment
         (answer origin.entry.config.now origin.entry.member origin.entry.moment session.old request.now).submissions
         (floor.old, steps.old) (floor.new, steps.new)) }
-    ensures none { IfErr result (λ refusal. TookNone F.at F.step_limit (F.mark floor.old) origin.entry.feed origin.entry.moment refusal
+    ensures none { IfErr result (λ refusal. TookNone F.at F.step_limit (F.mark floor.old)
+        origin.entry.feed origin.entry.moment refusal
         (answer origin.entry.config.now origin.entry.member origin.entry.moment session.old request.now).submissions
         (floor.old, steps.old) (floor.new, steps.new)) }
 {

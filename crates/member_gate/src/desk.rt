@@ -127,7 +127,8 @@ impl Desk {
 
         // The floor took exactly the commands of the piece's frames.
         ensures took { OnOk result (TookAll F.at F.step_limit (F.mark floor.old) feed moment
-            (work_of_piece config.now moment self.old piece.now).submissions (floor.old, steps.old) (floor.new, steps.new)) }
+            (work_of_piece config.now moment self.old piece.now).submissions
+            (floor.old, steps.old) (floor.new, steps.new)) }
 
         // After a refusal the connection has ended, and the floor took the commands of the frames before.
         ensures stopped { IfErr result (λ refusal. Stopped F.at F.step_limit (F.mark floor.old) config.now self.old.member
@@ -150,7 +151,15 @@ impl Desk {
         };
         let alloc = self.alloc;
         let framer = &mut self.framer;
-        match work_piece(alloc, framer, &mut self.session, floor, origin, piece, steps) {
+        match work_piece(
+            alloc,
+            framer,
+            &mut self.session,
+            floor,
+            origin,
+            piece,
+            steps,
+        ) {
             Ok(turn) => Ok(turn),
             Err(refusal) => {
                 self.refused = true;
@@ -219,7 +228,8 @@ impl Desk {
     /// The clock says this moment, in milliseconds since 1970-01-01 00:00 UTC: the session sends at most one message, or
     /// ends the connection where its member is silent. Where memory is wanted the connection ends without a cause.
     pub fn tick(&mut self, moment: i64) -> Result<Turn, NoMemory>
-        ensures session { OnOk result (self.new ≡ record self.old { session = (on_clock self.old.session moment).machine }) }
+        ensures session { OnOk result (self.new
+            ≡ record self.old { session = (on_clock self.old.session moment).machine }) }
         ensures turn { IfOk result (λ turn. turn
             ≡ sending self.new.session (on_clock self.old.session moment).turn.replies) }
         ensures up { OnErr result (IsUp self.old.session) }

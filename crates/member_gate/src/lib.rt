@@ -17,6 +17,5 @@ pub use desk::Desk;
 pub use refusal::DeskRefusal;
 pub use session_core::{EndCause, Turn};
 
-
 #[cfg(test)]
 mod tests;

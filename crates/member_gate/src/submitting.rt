@@ -23,8 +23,9 @@ pub fn submit<F: Floor, L: Ledger>(
     ensures mark { F.mark floor.new ≡ F.mark floor.old }
     ensures took { OnOk result (TookAll F.at F.step_limit (F.mark floor.old) origin.entry.feed origin.entry.moment
         (record { symbol = symbol; command = command } ∷ []) (floor.old, steps.old) (floor.new, steps.new)) }
-    ensures none { IfErr result (λ refusal. TookNone F.at F.step_limit (F.mark floor.old) origin.entry.feed origin.entry.moment
-        refusal (record { symbol = symbol; command = command } ∷ []) (floor.old, steps.old) (floor.new, steps.new)) }
+    ensures none { IfErr result (λ refusal. TookNone F.at F.step_limit (F.mark floor.old)
+        origin.entry.feed origin.entry.moment refusal
+        (record { symbol = symbol; command = command } ∷ []) (floor.old, steps.old) (floor.new, steps.new)) }
 {
     match floor.submit(symbol, origin.feed, origin.moment, command, steps) {
         Ok(_) => Ok(()),

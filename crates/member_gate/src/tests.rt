@@ -155,10 +155,12 @@ fn receive<F: Floor, L: Ledger>(
         Received::Refused(texts) => {
             let piece = frames_of(alloc, *texts)?;
             match take_cut(desk, floor, config, &piece, cut, steps) {
-                Err(DeskRefusal::Full {
-                    symbol: 0,
-                    found: 4,
-                }) => Ok(Vec::new(alloc)),
+                Err(
+                    DeskRefusal::Full {
+                        symbol: 0,
+                        found: 4,
+                    },
+                ) => Ok(Vec::new(alloc)),
                 _ => Err(DeskRefusal::NoMemory),
             }
         }
@@ -241,7 +243,10 @@ fn worked_examples(rt: HostRuntime) -> Result<(), Fail> {
     for (number, cases) in sequences.iter().enumerate() {
         for cut in [0, 1, 11, 20, 40, 90, 1000] {
             let other = goes_otherwise(alloc, cases, cut).map_err(|_| NoMemory)?;
-            assert!(rt; other.is_none(), "sequence {number}, cut at {cut}: {other:?}");
+            assert!(rt;
+                other.is_none(),
+                "sequence {number}, cut at {cut}: {other:?}"
+            );
         }
     }
     Ok(())

@@ -42,7 +42,8 @@ fn work_frame<F: Floor, L: Ledger>(
         (work_of_frame origin.entry.config.now origin.entry.member origin.entry.moment session.old frame.now).submissions
         (floor.old, steps.old) (floor.new, steps.new)) }
     ensures gave_up { OnErr result (GaveUp origin.entry.moment session.old (frame.now ∷ []) (given_up session.new)) }
-    ensures none { IfErr result (λ refusal. TookNone F.at F.step_limit (F.mark floor.old) origin.entry.feed origin.entry.moment refusal
+    ensures none { IfErr result (λ refusal. TookNone F.at F.step_limit (F.mark floor.old)
+        origin.entry.feed origin.entry.moment refusal
         (work_of_frame origin.entry.config.now origin.entry.member origin.entry.moment session.old frame.now).submissions
         (floor.old, steps.old) (floor.new, steps.new)) }
 {

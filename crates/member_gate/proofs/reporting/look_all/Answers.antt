@@ -1,6 +1,5 @@
 -- One more symbol was asked for; behind the last one the cursors that are left stay.
 use Rattle.std.proofs.Common.{◌≡◌, ℕ, ◌<◌, max, List, ◌∷◌, [], ◌++◌, length, drop, ◌∙◌, ap, subst, arith}
-use Rattle.session_core.specs.declared.message.Message.{Message}
 use Rattle.member_gate.specs.Answering.{name_at}
 use Rattle.member_gate.specs.Reporting.{messages_at}
 use Rattle.member_gate.proofs.Looking.{Looked, looked_more, moved_on}

@@ -1,5 +1,5 @@
 -- Frame by frame the work goes on; it ends where the framer has no further frame, at one that is too long, or at a refusal.
-use Rattle.std.proofs.Common.{◌≡◌, ◌∙◌, subst}
+use Rattle.std.proofs.Common.{◌∙◌, subst}
 use Rattle.std.proofs.lemmas.Result.{err_from_is_err_and}
 use Rattle.fix_frames.specs.declared.framer.Next.{Next}
 use Rattle.fix_frames.specs.Streams.{IsNext}

@@ -1,11 +1,11 @@
 -- A session that has ended takes nothing more; where the stream does not grow, nothing was worked.
-use Rattle.std.proofs.Common.{◌≡◌, ◌++◌, [], List, ℕ, refl, sym, ◌∙◌, ap, subst}
+use Rattle.std.proofs.Common.{◌++◌, [], refl, sym, ◌∙◌, ap, subst}
 use Rattle.std.proofs.lemmas.Result.{err_from_is_err_and}
 use Rattle.fix_frames.specs.Reading.{reading_of}
 use Rattle.session_core.specs.declared.turn.Turn.{Turn}
-use Rattle.session_core.specs.Machine.{Machine, IsOver, sending, given_up}
+use Rattle.session_core.specs.Machine.{Machine, IsOver, sending}
 use Rattle.member_gate.specs.Answering.{Work}
-use Rattle.member_gate.specs.Submitting.{TookAll, Stopped}
+use Rattle.member_gate.specs.Submitting.{TookAll}
 use Rattle.member_gate.proofs.Over.{over_by_cause, over_reading}
 use Rattle.member_gate.proofs.Underway.{stopped_at_once}
 use Rattle.member_gate.proofs.working.work_piece.Goals as goal

@@ -1,5 +1,5 @@
 -- A connection that ended at a refusal takes nothing more.
-use Rattle.std.proofs.Common.{◌≡◌, ◌++◌, [], Bool, cond, refl, sym, ◌∙◌, ap, subst}
+use Rattle.std.proofs.Common.{◌++◌, [], Bool, cond, refl, sym, ◌∙◌, ap, subst}
 use Rattle.fix_frames.specs.Reading.{reading_of}
 use Rattle.session_core.specs.State.{is_over}
 use Rattle.session_core.specs.Machine.{Machine, IsOver, given_up, sending}

@@ -1,7 +1,6 @@
 -- To a connection that ended at a refusal a tick does nothing.
 use Rattle.std.proofs.Common.{Bool, cond, [], sym, ◌∙◌, ap}
-use Rattle.session_core.specs.declared.turn.Turn.{Turn}
-use Rattle.session_core.specs.State.{is_over, cause_of}
+use Rattle.session_core.specs.State.{is_over}
 use Rattle.session_core.specs.Machine.{Machine, Outcome, IsOver, given_up, sending}
 use Rattle.member_gate.specs.Desks.{DeskView}
 use Rattle.member_gate.proofs.Over.{clock_over}
