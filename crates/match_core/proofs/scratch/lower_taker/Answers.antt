@@ -1,5 +1,4 @@
-use Rattle.std.proofs.Common.{◌≡◌, ap, ◌∙◌, sym, arith}
-use Rattle.venue_words.specs.declared.row.Row.{Row}
+use Rattle.std.proofs.Common.{ap, arith}
 use Rattle.peg_groups.specs.Side.{taken_row}
 use Rattle.match_core.proofs.Trades.{row_after_none, row_after_some}
 use Rattle.match_core.proofs.scratch.lower_taker.Goals as goal

@@ -1,0 +1,7 @@
+pub mod Framing
+pub mod Joining
+pub mod Looking
+pub mod Over
+pub mod Taking
+pub mod Underway
+pub mod PlainFloor
