@@ -1,6 +1,7 @@
 //! What happens in the books of the tests.
 ghost use Rattle.std.specs.Prelude.{◌≡◌, ◌<◌, ◌≤◌, ◌^◌, length, OnOk};
 ghost use Rattle.venue_words.specs.Conditions.{IsRow};
+ghost use Rattle.venue_words.specs.declared.price.Side.TheVariants.{Buy};
 
 use crate::Engine;
 use eager_meaning::Fill;
@@ -39,7 +40,9 @@ pub struct Trade {
     pub price: u32,
 }
 
-pub fn buy(quantity: u32) -> Order {
+pub fn buy(quantity: u32) -> Order
+    ensures { result.side ≡ Buy }
+{
     Order {
         side: Side::Buy,
         quantity,
@@ -62,6 +65,7 @@ pub fn row_of(order: Order, number: u32, event: u32) -> Row
     ensures entry { result.entry ≡ event }
     ensures order { result.order ≡ number }
     ensures leaves { 0 < result.leaves }
+    ensures side { result.key.side ≡ order.side }
 {
     let (reference, cap) = match order.limit {
         None => (Reference::Mid, PRICE_END),
