@@ -136,12 +136,25 @@ fn compare_days<L: Ledger>(rt: &impl Abort, alloc: Global, blank: Blank) -> Resu
         compare(rt, alloc, name, 2, &events_of(alloc, commands)?, &mut steps)?;
     }
     for (name, commands) in days::FIVE_CENT_DAYS {
-        compare(rt, alloc, name, 10, &events_of(alloc, commands)?, &mut steps)?;
+        compare(
+            rt,
+            alloc,
+            name,
+            10,
+            &events_of(alloc, commands)?,
+            &mut steps,
+        )?;
     }
     Ok(())
 }
 
-fn compare_random<L: Ledger>(rt: &impl Abort, alloc: Global, blank: Blank, histories: u64, events: u32) -> Result<(), Fail>
+fn compare_random<L: Ledger>(
+    rt: &impl Abort,
+    alloc: Global,
+    blank: Blank,
+    histories: u64,
+    events: u32,
+) -> Result<(), Fail>
     requires name { blank.name ≡ L.name }
     requires parts { blank.parts ≡ L.parts }
     requires one { blank.parts ≡ 1 }
@@ -149,7 +162,14 @@ fn compare_random<L: Ledger>(rt: &impl Abort, alloc: Global, blank: Blank, histo
     let mut steps = Steps::<L>::start(blank);
     for seed in 0..histories {
         let tick = if seed % 3 == 0 { 10 } else { 2 };
-        compare(rt, alloc, "random", tick, &random_events(alloc, seed, events)?, &mut steps)?;
+        compare(
+            rt,
+            alloc,
+            "random",
+            tick,
+            &random_events(alloc, seed, events)?,
+            &mut steps,
+        )?;
     }
     Ok(())
 }
@@ -179,7 +199,10 @@ fn fill_to_the_limit<L: Ledger>(rt: &impl Abort, alloc: Global, blank: Blank) ->
     requires one { blank.parts ≡ 1 }
 {
     let mut steps = Steps::<L>::start(blank);
-    let events = events_of(alloc, "Q N 10.00 10.01\nA new a1 buy mid 100\nB new b1 sell mid 100")?;
+    let events = events_of(
+        alloc,
+        "Q N 10.00 10.01\nA new a1 buy mid 100\nB new b1 sell mid 100",
+    )?;
     let mut book = Book::new(alloc, 2, 3, 2)?;
     assert_eq!(rt; submit_all(alloc, &mut book, &events, &mut steps)?, 3);
     let before = text_of(alloc, book.reports())?;
@@ -219,7 +242,13 @@ fn sent<T: Send>(value: T) -> T
 }
 
 /// So many orders that rest in three groups, and then as many quotes.
-fn load<L: Ledger>(rt: &impl Abort, alloc: Global, seed: HashSeed, blank: Blank, count: u32) -> Result<(), Fail>
+fn load<L: Ledger>(
+    rt: &impl Abort,
+    alloc: Global,
+    seed: HashSeed,
+    blank: Blank,
+    count: u32,
+) -> Result<(), Fail>
     requires name { blank.name ≡ L.name }
     requires parts { blank.parts ≡ L.parts }
     requires one { blank.parts ≡ 1 }

@@ -29,10 +29,12 @@ pub struct BookOver<E: Engine + Drop> {
     markets: Markets,
     engine: E,
     orders: Vec<Order>,
+    /// For each order the row with which it entered last, or none where it was canceled or may not rest.
     entered: Vec<Option<Row>>,
     ids: UsedIds,
     log: ReportLog,
     journal: Vec<Event>,
+    /// The key of the row for which there is room, where there is room for an event.
     ready: Option<Option<Key>>,
 }
 

@@ -145,10 +145,7 @@ pub const DAYS: [(&str, &str); 25] = [
             Q N 10.01 10.02
             A status a1",
     ),
-    (
-        "immediate or cancel",
-        "A new a1 buy mid 100 59=3",
-    ),
+    ("immediate or cancel", "A new a1 buy mid 100 59=3"),
     (
         "new orders",
         "Q N 10.00 10.01

@@ -4,6 +4,7 @@ use venue_words::{Bytes, Command, Event, Terms};
 
 /// One share as an amount, and one unit of price.
 const SHARE: i128 = 100_000_000;
+
 const UNIT: i128 = 500_000;
 
 /// Numbers that look random.
