@@ -26,6 +26,7 @@ cat > crates/book_load/src/main.rt <<'END'
 
 ghost use Rattle.std.specs.Prelude.{◌≡◌};
 
+use std::alloc::Global;
 use std::env;
 use std::io;
 use std::marker::Brand;
