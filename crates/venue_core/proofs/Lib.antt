@@ -2,6 +2,7 @@ pub mod Answered
 pub mod AtSymbol
 pub mod Closes
 pub mod Joins
+pub mod NewBooks
 pub mod Places
 pub mod PlainShowing
 pub mod Showing

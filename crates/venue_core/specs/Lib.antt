@@ -1,3 +1,4 @@
+pub mod Books
 pub mod Closing
 pub mod Joining
 pub mod Marks

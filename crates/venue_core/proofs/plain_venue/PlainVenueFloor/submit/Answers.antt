@@ -4,7 +4,7 @@ use Rattle.std.proofs.lemmas.Int.{to_z-of_z}
 use mir.Syntax.{w64}
 use Rattle.venue_core.specs.Plain.{SubmitsTo}
 use Rattle.venue_core.proofs.PlainShowing.{floor_mark, floor_others, floor_reports, floor_records, floor_room, floor_err, floor_full, floor_steps, floor_idle, floor_kept}
-use Rattle.venue_core.proofs.plain.PlainVenueFloor.submit.Goals as goal
+use Rattle.venue_core.proofs.plain_venue.PlainVenueFloor.submit.Goals as goal
 
 pub returns-clause-mark : goal.returns-clause-mark
 returns-clause-mark g c =
