@@ -35,9 +35,9 @@ three_names = record { lengths = (one_letter 88, (one_letter 89, (one_letter 90,
 pub returns-clause-config : goal.returns-clause-config
 returns-clause-config c =
     let members : c.members-2.inside.0.items ≡ (65 ∷ []) ∷ (66 ∷ []) ∷ (67 ∷ []) ∷ (68 ∷ []) ∷ [] =
-        c.members-2.view_is ∙ (c.in_ok-push.ensures ∙ (λ k. c.in_ok-members.ensures k ++ c.in_ok-copy_of.ensures k ∷ [])) in
+    c.members-2.view_is ∙ (c.in_ok-push.ensures ∙ (λ k. c.in_ok-members.ensures k ++ c.in_ok-copy_of.ensures k ∷ [])) in
     let markets : c.markets-2.inside.0.items ≡ (78 ∷ []) ∷ [] =
-        c.markets-2.view_is ∙ (c.in_ok-push-2.ensures ∙ (λ k. c.new-markets.ensures k ++ c.in_ok-copy_of-2.ensures k ∷ [])) in
+    c.markets-2.view_is ∙ (c.in_ok-push-2.ensures ∙ (λ k. c.new-markets.ensures k ++ c.in_ok-copy_of-2.ensures k ∷ [])) in
     let symbols = c.in_ok-names_of.ensures in
     let limits = c.in_ok-vec.ensures.items in
     let ticks = c.in_ok-vec-2.ensures.items in
