@@ -1,5 +1,5 @@
 -- What the lines of a header say, and the first cause why one is refused.
-use Rattle.std.specs.Prelude.{◌≡◌, ℕ, ◌+◌, ◌==◌, Bool, true, false, List, [], ◌∷◌, ◌++◌, length, Option, Some, None, Result, Ok, Err, nat_lt, nat_le, sum, if◌then◌else◌, codes, not, ℤ, pos}
+use Rattle.std.specs.Prelude.{ℕ, ◌+◌, ◌==◌, Bool, true, false, List, [], ◌∷◌, ◌++◌, length, Option, Some, None, Result, Ok, Err, nat_lt, nat_le, sum, if◌then◌else◌, codes, not, ℤ, pos}
 use Rattle.std.specs.List.{list_any}
 use Rattle.std.specs.Str.{bytes_eq}
 use Rattle.venue_words.specs.declared.config.Config.{Config}
@@ -7,7 +7,7 @@ use Rattle.script_text.specs.declared.header.Header.{Header}
 use Rattle.script_text.specs.declared.fault.LineFault.{LineFault}
 use Rattle.script_text.specs.declared.fault.LineFault.TheVariants.{Bad, Limit}
 use Rattle.script_text.specs.declared.fault.LineCause.{LineCause}
-use Rattle.script_text.specs.declared.fault.LineCause.TheVariants.{NoEnd, BadHeader, BadWord, BadName, DoubleName, BadNumber, BadTick, BadMoment}
+use Rattle.script_text.specs.declared.fault.LineCause.TheVariants.{BadHeader, BadWord, BadName, DoubleName, BadNumber, BadTick, BadMoment}
 use Rattle.script_text.specs.declared.fault.LimitCause.{LimitCause}
 use Rattle.script_text.specs.declared.fault.LimitCause.TheVariants.{Line, Members, Markets, Symbols, EventsSum}
 use Rattle.venue_words.specs.Conditions.{most_events}

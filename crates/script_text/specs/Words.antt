@@ -1,5 +1,5 @@
 -- The forms of the words of a header.
-use Rattle.std.specs.Prelude.{◌≡◌, ℕ, ◌+◌, ◌-◌, ◌*◌, ◌&&◌, ◌||◌, ◌==◌, Bool, true, false, not, List, [], ◌∷◌, length, Option, Some, None, nat_lt, nat_le, option_and_then, if◌then◌else◌, codes, slice_index, drop, ℤ, pos}
+use Rattle.std.specs.Prelude.{ℕ, ◌+◌, ◌&&◌, ◌||◌, ◌==◌, Bool, List, length, Option, Some, None, nat_lt, nat_le, option_and_then, if◌then◌else◌, codes, slice_index, drop, ℤ}
 use Rattle.std.specs.List.{list_all}
 use Rattle.std.specs.Str.{bytes_eq}
 use Rattle.venue_words.specs.Conditions.{most_events}
@@ -32,3 +32,7 @@ tick_of text = if bytes_eq text (codes "0.01") then Some 2
 -- a moment with just three places behind the second, in milliseconds since 1970-01-01 00:00 UTC
 unfoldable pub script_moment : List ℕ → Option ℤ
 script_moment text = if length text == 21 then moment_of text else None
+
+-- what stands behind a word and its space in a line
+abbrev pub behind_word : List ℕ → List ℕ → List ℕ
+behind_word word line = drop (length word + 1) line

@@ -1,13 +1,14 @@
 //! A config: a header that nothing follows.
-ghost use Rattle.std.specs.Prelude.{◌≡◌, ◌<◌, ◌≤◌, ◌+◌, ◌^◌, ◌-◌, length, nat_lt, if◌then◌else◌};
+ghost use Rattle.std.specs.Prelude.{◌≡◌, ◌<◌, ◌≤◌, ◌+◌, ◌^◌, ◌-◌, IfOk, length, nat_lt, if◌then◌else◌};
 ghost use Rattle.script_text.specs.declared.fault.LineFault.TheVariants.{Bad, Limit};
 ghost use Rattle.script_text.specs.declared.fault.LimitCause.TheVariants.{Line};
+ghost use Rattle.venue_words.specs.Conditions.{IsConfig};
 ghost use Rattle.script_text.specs.Meets.{Meets};
 ghost use Rattle.script_text.specs.Config.{unended, behind_text, config_of};
 
 use crate::fault::{LimitCause, LineCause, LineFault};
-use crate::header::{Header, MAX_LINE_BYTES};
-use crate::lines::cut_line;
+use crate::header::Header;
+use crate::lines::{MAX_LINE_BYTES, cut_line};
 use std::alloc::Global;
 use venue_words::Config;
 
@@ -29,7 +30,8 @@ fn bad_line(line: u32, text: &[u8], cause: LineCause) -> LineFault
 #[tactic(auto, using(crate::proofs::Configs::behind_first, crate::proofs::Configs::behind_rest))]
 fn whole(config: Config, lines: u32, text: &[u8]) -> Result<(Config, u32), LineFault>
     requires { lines < 2 ^ 32 - 1 }
-    ensures { result ≡ behind_text lines config text.now }
+    ensures read { result ≡ behind_text lines config text.now }
+    ensures same { IfOk result (λ read. read.0 ≡ config) }
 {
     match cut_line(text) {
         Some((part, _)) => Err(bad_line(lines + 1, part, LineCause::BadHeader)),
@@ -43,10 +45,12 @@ fn whole(config: Config, lines: u32, text: &[u8]) -> Result<(Config, u32), LineF
     }
 }
 
-/// The config that a text says, and the number of its lines.
+/// The config that a text says, which is a header alone, and the number of its lines. Else the first line that is
+/// refused, and why. The limit on the bytes of a whole text is judged by the caller.
 pub fn read_header(alloc: Global, text: &[u8]) -> Result<(Config, u32), LineFault>
     requires { length text.now < 2 ^ 31 }
-    ensures { Meets (config_of text.now) result }
+    ensures read { Meets (config_of text.now) result }
+    ensures config { IfOk result (λ read. IsConfig read.0) }
 {
     let mut header = Header::new(alloc);
     let mut lines = 0u32;

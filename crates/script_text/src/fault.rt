@@ -3,6 +3,7 @@ ghost use Rattle.std.specs.Prelude.{◌≡◌};
 ghost use Rattle.script_text.specs.declared.fault.LineFault.TheVariants.{NoMemory as memory};
 
 use std::alloc::{AllocError, AllocFailed};
+use venue_words::NoMemory;
 
 /// Why a line is outside the grammar. Causes are judged in this order, and within one cause the words of
 /// the line from left to right.
@@ -59,6 +60,14 @@ pub enum LineFault {
     Bad { line: u32, cause: LineCause },
     Limit { line: u32, which: LimitCause },
     NoMemory,
+}
+
+impl From<NoMemory> for LineFault {
+    ghost from_gives = { λ _ fault. fault ≡ memory };
+
+    fn from(_error: NoMemory) -> LineFault {
+        LineFault::NoMemory
+    }
 }
 
 impl From<AllocError> for LineFault {

@@ -1,18 +1,16 @@
 //! The header of a script, line by line.
-ghost use Rattle.std.specs.Prelude.{◌≡◌, ◌<◌, ◌≤◌, ◌^◌, ◌+◌, ◌==◌, Ok, Some, None, Bool, IsTrue, IfOk, length, sum, map, not, nat_lt, take, min};
+ghost use Rattle.std.specs.Prelude.{◌≡◌, ◌<◌, ◌≤◌, ◌^◌, ◌+◌, ◌==◌, Ok, Some, None, Bool, IsTrue, IfOk, OnOk, length, sum, map, not, nat_lt, take, min};
 ghost use Rattle.std.specs.List.{list_any};
 ghost use Rattle.std.specs.Str.{bytes_eq};
 ghost use Rattle.script_text.specs.Meets.{Meets};
-ghost use Rattle.venue_words.specs.Conditions.{most_events};
+ghost use Rattle.venue_words.specs.Conditions.{most_events, IsConfig};
 ghost use Rattle.script_text.specs.Words.{is_name, limit_of, tick_of, script_moment};
 
 use crate::fault::{LimitCause, LineCause, LineFault};
+use crate::lines::MAX_LINE_BYTES;
 use crate::words::{MAX_EVENTS, is_name, limit_of, script_moment, tick_of, words_of};
 use std::alloc::Global;
 use venue_words::{Bytes, Config, Items};
-
-/// The most bytes of a line before its LF.
-pub const MAX_LINE_BYTES: usize = 16_384;
 
 /// The header of a script as far as it was read.
 #[derive(Debug, Drop)]
@@ -48,8 +46,10 @@ impl Header {
     ghost use Rattle.script_text.specs.Header.{header_line, first_line, keyed, keyed_line, keyed_else, with_header, member_line, market_line, symbol_line, symbol_words, symbol_fits, begin_line, name_cause, blank};
 
     /// The header before its first line.
+    #[tactic(auto, using(crate::proofs::Configured::blank_kept))]
     pub fn new(alloc: Global) -> Header
-        ensures { result ≡ blank }
+        ensures header { result ≡ blank }
+        ensures config { IsConfig result.config }
     {
         Header {
             version: 0,
@@ -281,9 +281,9 @@ impl Header {
         })
     }
 
-    /// Reads the next line, without its LF, and says whether it ends the header.
+    /// Reads the next line.
     #[tactic(auto, unfolding(crate::specs::Header::header_line))]
-    pub fn line(&mut self, alloc: Global, line: u32, text: &[u8]) -> Result<bool, LineFault>
+    fn read(&mut self, alloc: Global, line: u32, text: &[u8]) -> Result<bool, LineFault>
         ensures { Meets (header_line line self.old text.now) (with_header result self.new) }
     {
         if text.len() > MAX_LINE_BYTES {
@@ -297,5 +297,15 @@ impl Header {
         }
         let words = words_of(alloc, text)?;
         self.keyed_line(alloc, line, words.as_slice())
+    }
+
+    /// Reads the next line, without its LF, and says whether it ends the header. After a refusal the header may hold a
+    /// part of the line, and is to be dropped.
+    #[tactic(auto, using(crate::proofs::Configured::read_keeps))]
+    pub fn line(&mut self, alloc: Global, line: u32, text: &[u8]) -> Result<bool, LineFault>
+        ensures line { Meets (header_line line self.old text.now) (with_header result self.new) }
+        ensures config { OnOk result (IsConfig self.old.config → IsConfig self.new.config) }
+    {
+        self.read(alloc, line, text)
     }
 }

@@ -2,7 +2,7 @@
 ghost use Rattle.std.specs.Prelude.{◌≡◌, ◌<◌, ◌≤◌, ◌^◌, ◌==◌, ◌+◌, ◌∷◌, [], map, take, drop, IfOk, IfSome, IfNone, length, position};
 ghost use Rattle.std.specs.List.{list_all};
 ghost use Rattle.quote_intake.specs.Words.{words_of};
-ghost use Rattle.script_text.specs.Words.{is_name, limit_of, tick_of, script_moment, is_letter, is_name_byte};
+ghost use Rattle.script_text.specs.Words.{is_name, limit_of, tick_of, script_moment, is_letter, is_name_byte, behind_word};
 
 use fix_fields::moment;
 use quote_intake::{digits, first_space};
@@ -10,6 +10,18 @@ use std::alloc::{AllocError, Global};
 
 /// The greatest number of events of a symbol, and of all symbols.
 pub const MAX_EVENTS: u32 = 2_097_152;
+
+/// The first word of a line and what stands behind its space, or none where the line has one word.
+pub fn cut_word(line: &[u8]) -> Option<(&[u8], &[u8])>
+    ensures words { IfSome result (λ cut. words_of line.now ≡ cut.0.now ∷ words_of cut.1.now) }
+    ensures behind { IfSome result (λ cut. cut.1.now ≡ behind_word cut.0.now line.now) }
+    ensures none { IfNone result (words_of line.now ≡ line.now ∷ []) }
+{
+    match first_space(line) {
+        Some(at) => Some((&line[..at], &line[at + 1..])),
+        None => None,
+    }
+}
 
 /// The words of a line, which are parted by one space.
 pub fn words_of<'a>(alloc: Global, line: &'a [u8]) -> Result<Vec<&'a [u8]>, AllocError>

@@ -1,0 +1,43 @@
+-- What the framer's answers say, and how the replies of a frame are added.
+use Rattle.std.proofs.Common.{◌≡◌, ℕ, ◌+◌, ◌<◌, ◌≤◌, ℤ, List, [], ◌∷◌, ◌++◌, length, drop, Some, sym, ◌∙◌, ap, arith, append_assoc, length-drop}
+use Rattle.std.specs.Option.{option_to_list}
+use Rattle.fix_fields.specs.declared.field.TheConstants.{LONGEST_FRAME}
+use Rattle.fix_frames.specs.FoundLaws.{whole_found}
+use Rattle.fix_frames.specs.ReadingLaws.{lies_in}
+use Rattle.fix_frames.specs.Streams.{Stream, HasGiven}
+use Rattle.venue_words.specs.declared.config.Config.{Config}
+use Rattle.session_core.specs.declared.message.Request.{Request}
+use Rattle.session_core.specs.declared.turn.Turn.{Turn}
+use Rattle.session_core.specs.Machine.{Machine, Outcome, on_frame}
+use Rattle.member_gate.specs.Answering.{answer}
+use Rattle.member_gate.specs.Working.{handed_out, work_of_frame}
+
+-- a frame that was given is not too long
+pub given_short : (old new : Stream) (frame : List ℕ) → HasGiven old new frame → length frame ≤ LONGEST_FRAME
+given_short old new frame h =
+    let l = lies_in (old.kept ++ []) h.0 frame (h.2 []) in
+    (whole_found (drop h.0 (old.kept ++ [])) (length frame) l.whole).1
+
+-- and leaves fewer bytes
+pub given_shorter : (old new : Stream) (frame : List ℕ) → HasGiven old new frame → length new.kept < length old.kept
+given_shorter old new frame h =
+    let l = lies_in (old.kept ++ []) h.0 frame (h.2 []) in
+    omega (arith, l.some, h.1.inside, ap length h.1.kept, length-drop (h.0 + length frame) old.kept)
+
+-- the turn's replies and the answer are those of the frame
+pub reply_added : (config : Config) (member : ℕ) (moment read : ℤ) (session next : Machine) (frame : List ℕ) (turn : Turn) (request : Request) (reply : List ℕ) (sent own all more : List (List ℕ))
+    → read ≡ moment → turn ≡ (on_frame session frame read).turn → next ≡ (on_frame session frame read).machine → turn.request ≡ Some request
+    → option_to_list (Some reply) ≡ (answer config member moment next request).replies → own ≡ turn.replies → all ≡ sent ++ own → more ≡ all ++ reply ∷ []
+    → more ≡ sent ++ (work_of_frame config member moment session frame).replies
+unfolding work_of_frame
+reply_added config member moment read session next frame turn request reply sent own all more e t m asked answered o a r =
+    let outcome : Outcome = on_frame session frame moment in
+    let now : on_frame session frame read ≡ outcome = ap (on_frame session frame) e in
+    let turn_is : turn ≡ outcome.turn = t ∙ ap (λ (x : Outcome). x.turn) now in
+    let next_is : next ≡ outcome.machine = m ∙ ap (λ (x : Outcome). x.machine) now in
+    let asked_is : outcome.turn.request ≡ Some request = ap (λ (x : Turn). x.request) (sym turn_is) ∙ asked in
+    let reply_is : reply ∷ [] ≡ (answer config member moment outcome.machine request).replies = answered ∙ ap (λ (x : Machine). (answer config member moment x request).replies) next_is in
+    r ∙ ap (λ (x : List (List ℕ)). x ++ reply ∷ []) (a ∙ ap (λ (x : List (List ℕ)). sent ++ x) (o ∙ ap (λ (x : Turn). x.replies) turn_is))
+    ∙ append_assoc sent outcome.turn.replies (reply ∷ [])
+    ∙ ap (λ (x : List (List ℕ)). sent ++ (outcome.turn.replies ++ x)) reply_is
+    ∙ ap (λ x. sent ++ (outcome.turn.replies ++ (handed_out config member moment outcome.machine x).replies)) (sym asked_is)

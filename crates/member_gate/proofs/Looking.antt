@@ -1,0 +1,117 @@
+-- Symbol by symbol a member's reports are gathered.
+use Rattle.std.proofs.Common.{◌≡◌, ◌≢◌, ℕ, ◌+◌, ◌-◌, ◌<◌, ◌≤◌, max, List, [], ◌∷◌, ◌++◌, length, take, drop, get_or, refl, sym, ◌∙◌, ap, subst, arith, append_assoc, length-append}
+use Rattle.std.proofs.lemmas.List.{append-nil, take_more, get_or_append_left, get_or-append_right, get_or-drop, length-take-le}
+use Rattle.std.proofs.lemmas.Option.{unwrap_or-slice_get}
+use Rattle.std.proofs.Math.Seq.{get_or-append_seam, take-length}
+use mathlib.Core.Logic.{dite}
+use native.Mathlib.Decide.{ℕ_discrete}
+use Rattle.venue_words.specs.declared.config.Config.{Config}
+use Rattle.venue_words.specs.declared.report.Report.{Report}
+use Rattle.venue_words.specs.Floors.{SymbolView, TurnsRose}
+use Rattle.session_core.specs.declared.message.Message.{Message}
+use Rattle.member_gate.specs.Answering.{name_at}
+use Rattle.member_gate.specs.Submitting.{Waited}
+use Rattle.member_gate.specs.Reporting.{cursor_at, messages_at, messages_from, messages_past, MovedOn}
+use Rattle.member_gate.proofs.Taking.{waited_self}
+
+messages_same : (config : Config) (member : ℕ) (cursors : List ℕ) (before after : ℕ → List Report) (number : ℕ) (symbols : List (List ℕ)) → ((k : ℕ) → k < number + length symbols → after k ≡ before k)
+    → messages_from config member cursors after number symbols ≡ messages_from config member cursors before number symbols
+messages_same config member cursors before after number [] same = refl
+messages_same config member cursors before after number (symbol ∷ symbols) same =
+    ap (λ (rs : List Report). messages_at config member symbol (cursor_at cursors number) rs ++ messages_from config member cursors after (number + 1) symbols) (same number (omega arith))
+    ∙ ap (λ (ms : List Message). messages_at config member symbol (cursor_at cursors number) (before number) ++ ms) (messages_same config member cursors before after (number + 1) symbols (λ k h. same k (omega arith)))
+
+messages_snoc : (config : Config) (member : ℕ) (cursors : List ℕ) (reports : ℕ → List Report) (number place : ℕ) (symbols : List (List ℕ)) (symbol : List ℕ) → number + length symbols ≡ place
+    → messages_from config member cursors reports number (symbols ++ symbol ∷ [])
+    ≡ messages_from config member cursors reports number symbols ++ messages_at config member symbol (cursor_at cursors place) (reports place)
+messages_snoc config member cursors reports number place [] symbol e =
+    let here : number ≡ place = omega arith in
+    append-nil (messages_at config member symbol (cursor_at cursors number) (reports number))
+    ∙ ap (λ (k : ℕ). messages_at config member symbol (cursor_at cursors k) (reports k)) here
+messages_snoc config member cursors reports number place (first ∷ symbols) symbol e =
+    let front = messages_at config member first (cursor_at cursors number) (reports number) in
+    ap (λ (ms : List Message). front ++ ms) (messages_snoc config member cursors reports (number + 1) place symbols symbol (omega arith))
+    ∙ sym (append_assoc front (messages_from config member cursors reports (number + 1) symbols) (messages_at config member symbol (cursor_at cursors place) (reports place)))
+
+module _ {F : Type 0} (at : F → ℕ → SymbolView) (config : Config) (member : ℕ) (cursors : List ℕ) where
+  abbrev reports_at : F → ℕ → List Report
+  reports_at floor symbol = (at floor symbol).reports
+
+  -- the first symbols, so many, were asked for
+  pub record Looked (before : F) (count : ℕ) (now : F) (messages : List Message) (fronts : List ℕ) : Type 0 where
+    pub messages_are : messages ≡ messages_from config member cursors (reports_at now) 0 (take count config.symbols)
+    pub many : length fronts ≡ count
+    pub fronts_are : (symbol : ℕ) → symbol < count → get_or fronts symbol 0 ≡ max (cursor_at cursors symbol) (length (reports_at now symbol))
+    pub waited : (symbol : ℕ) → Waited (at before symbol) (at now symbol)
+    pub ahead : (symbol : ℕ) → count ≤ symbol → at now symbol ≡ at before symbol
+    pub turns : (symbol : ℕ) → symbol < count → TurnsRose (at before symbol).turns (at now symbol).turns
+
+  pub looked_none : (floor : F) → Looked floor 0 floor [] []
+  looked_none floor = record {
+    messages_are = refl;
+    many = refl;
+    fronts_are = λ symbol h. absurd (omega arith);
+    waited = λ symbol. waited_self (at floor symbol);
+    ahead = λ symbol h. refl;
+    turns = λ symbol h. absurd (omega arith);
+  }
+
+  -- one look, at the next symbol
+  pub waited_on : (before now next : F) (count : ℕ) → ((symbol : ℕ) → Waited (at before symbol) (at now symbol)) → ((symbol : ℕ) → count ≤ symbol → at now symbol ≡ at before symbol)
+      → ((other : ℕ) → other ≢ count → at next other ≡ at now other) → Waited (at now count) (at next count) → (symbol : ℕ) → Waited (at before symbol) (at next symbol)
+  waited_on before now next count waited ahead others one symbol =
+      dite (ℕ_discrete symbol count)
+      (λ is. subst (λ (k : ℕ). Waited (at before k) (at next k)) (sym is) (subst (λ (v : SymbolView). Waited v (at next count)) (ahead count (omega arith)) one))
+      (λ not. subst (λ (v : SymbolView). Waited (at before symbol) v) (sym (others symbol not)) (waited symbol))
+
+  pub ahead_on : (before now next : F) (count : ℕ) → ((symbol : ℕ) → count ≤ symbol → at now symbol ≡ at before symbol) → ((other : ℕ) → other ≢ count → at next other ≡ at now other)
+      → (symbol : ℕ) → count + 1 ≤ symbol → at next symbol ≡ at before symbol
+  ahead_on before now next count ahead others symbol h = others symbol (λ e. absurd (omega arith)) ∙ ahead symbol (omega arith)
+
+  pub looked_more : (before : F) (count : ℕ) (now next : F) (messages more : List Message) (fronts further : List ℕ) (front : ℕ)
+      → Looked before count now messages fronts → count < length config.symbols
+      → ((other : ℕ) → other ≢ count → at next other ≡ at now other) → Waited (at now count) (at next count) → TurnsRose (at now count).turns (at next count).turns
+      → more ≡ messages ++ messages_at config member (name_at config.symbols count) (cursor_at cursors count) (reports_at next count)
+      → front ≡ length (reports_at next count) → further ≡ fronts ++ max (cursor_at cursors count) front ∷ []
+      → Looked before (count + 1) next more further
+  looked_more before count now next messages more fronts further front l inside others waited rose m f s =
+      let shown = take count config.symbols in
+      let few : length shown ≡ count = length-take-le count config.symbols (omega arith) in
+      let place : 0 + length shown ≡ count = omega (arith, few) in
+      let name : get_or config.symbols count [] ≡ name_at config.symbols count = sym (unwrap_or-slice_get config.symbols count []) in
+      let names : take (count + 1) config.symbols ≡ shown ++ name_at config.symbols count ∷ [] = take_more config.symbols count [] inside ∙ ap (λ (x : List ℕ). shown ++ x ∷ []) name in
+      let kept : messages_from config member cursors (reports_at next) 0 shown ≡ messages_from config member cursors (reports_at now) 0 shown =
+      messages_same config member cursors (reports_at now) (reports_at next) 0 shown (λ k h. ap (λ (v : SymbolView). v.reports) (others k (λ e. absurd (omega arith)))) in
+      let added = messages_snoc config member cursors (reports_at next) 0 count shown (name_at config.symbols count) place in
+      let here = messages_at config member (name_at config.symbols count) (cursor_at cursors count) (reports_at next count) in record {
+        messages_are =
+            m ∙ ap (λ (ms : List Message). ms ++ here) (l.messages_are ∙ sym kept) ∙ sym added
+            ∙ ap (messages_from config member cursors (reports_at next) 0) (sym names);
+        many = ap length s ∙ length-append fronts _ ∙ ap (λ (k : ℕ). k + 1) l.many;
+        fronts_are = λ symbol h.
+            dite (ℕ_discrete symbol count)
+            (λ is. ap (λ (xs : List ℕ). get_or xs symbol 0) s ∙ ap (λ (k : ℕ). get_or (fronts ++ max (cursor_at cursors count) front ∷ []) k 0) (is ∙ sym l.many) ∙ get_or-append_seam fronts _ [] 0
+            ∙ ap (max (cursor_at cursors count)) f ∙ ap (λ (k : ℕ). max (cursor_at cursors k) (length (reports_at next k))) (sym is))
+            (λ not. ap (λ (xs : List ℕ). get_or xs symbol 0) s ∙ get_or_append_left fronts _ 0 symbol (let e = l.many in omega arith) ∙ l.fronts_are symbol (omega arith)
+            ∙ ap (λ (v : SymbolView). max (cursor_at cursors symbol) (length v.reports)) (sym (others symbol not)));
+        waited = waited_on before now next count l.waited l.ahead others waited;
+        ahead = ahead_on before now next count l.ahead others;
+        turns = λ symbol h.
+            dite (ℕ_discrete symbol count)
+            (λ is. subst (λ (k : ℕ). TurnsRose (at before k).turns (at next k).turns) (sym is) (subst (λ (v : SymbolView). TurnsRose v.turns (at next count).turns) (l.ahead count (omega arith)) rose))
+            (λ not. subst (λ (v : SymbolView). TurnsRose (at before symbol).turns v.turns) (sym (others symbol not)) (l.turns symbol (omega arith)));
+      }
+
+  pub moved_on : (before now : F) (messages : List Message) (fronts all : List ℕ) → Looked before (length config.symbols) now messages fronts → all ≡ fronts ++ drop (length config.symbols) cursors
+      → MovedOn (length config.symbols) (reports_at now) cursors all
+  moved_on before now messages fronts all l e =
+      let count = length config.symbols in record {
+        read = λ symbol h. ap (λ (xs : List ℕ). get_or xs symbol 0) e ∙ get_or_append_left fronts (drop count cursors) 0 symbol (let m = l.many in omega arith) ∙ l.fronts_are symbol h;
+        rest = λ symbol h.
+            let place : count + (symbol - count) ≡ symbol = omega arith in
+            ap (λ (xs : List ℕ). get_or xs symbol 0) e ∙ get_or-append_right fronts (drop count cursors) count symbol 0 l.many h
+            ∙ get_or-drop count cursors (symbol - count) 0 ∙ ap (λ (k : ℕ). get_or cursors k 0) place;
+      }
+
+  pub all_messages : (before now : F) (messages : List Message) (fronts : List ℕ) → Looked before (length config.symbols) now messages fronts → messages ≡ messages_past config member cursors (reports_at now)
+  all_messages before now messages fronts l = l.messages_are ∙ ap (messages_from config member cursors (reports_at now) 0) (take-length config.symbols)

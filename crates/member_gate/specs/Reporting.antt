@@ -1,0 +1,32 @@
+-- A member's reports past the cursors of his desk.
+use Rattle.std.specs.Prelude.{◌≡◌, ℕ, ◌+◌, ◌<◌, ◌≤◌, max, List, [], ◌∷◌, ◌++◌, map, length, slice_index}
+use Rattle.venue_words.specs.declared.config.Config.{Config}
+use Rattle.venue_words.specs.declared.report.Report.{Report}
+use Rattle.venue_words.specs.Journals.{reports_of}
+use Rattle.session_core.specs.declared.message.Message.{Message}
+use Rattle.member_gate.specs.Answering.{name_at, message_of}
+
+-- how many reports of a symbol a desk has gone through: none where that was never set
+abbrev pub cursor_at : List ℕ → ℕ → ℕ
+cursor_at cursors symbol = slice_index cursors symbol
+
+-- the member's reports of a symbol from a position on, as messages
+unfoldable pub messages_at : Config → ℕ → List ℕ → ℕ → List Report → List Message
+messages_at config member symbol from reports =
+    map (message_of (name_at config.members member) symbol) (reports_of member from reports)
+
+-- the member's reports past the cursors, as messages, of symbols in their order, the first of which has this number
+abbrev pub messages_from : Config → ℕ → List ℕ → (ℕ → List Report) → ℕ → List (List ℕ) → List Message
+messages_from config member cursors reports number [] = []
+messages_from config member cursors reports number (symbol ∷ symbols) =
+    messages_at config member symbol (cursor_at cursors number) (reports number)
+    ++ messages_from config member cursors reports (number + 1) symbols
+
+-- those of all symbols, in the config's order
+abbrev pub messages_past : Config → ℕ → List ℕ → (ℕ → List Report) → List Message
+messages_past config member cursors reports = messages_from config member cursors reports 0 config.symbols
+
+-- the cursor of each of so many symbols went on to the end of the symbol's reports where that is further on; no other moved
+pub record MovedOn (symbols : ℕ) (reports : ℕ → List Report) (before after : List ℕ) : Type 0 where
+  pub read : (symbol : ℕ) → symbol < symbols → cursor_at after symbol ≡ max (cursor_at before symbol) (length (reports symbol))
+  pub rest : (symbol : ℕ) → symbols ≤ symbol → cursor_at after symbol ≡ cursor_at before symbol

@@ -1,0 +1,114 @@
+//! What a message that the session hands out gets.
+ghost use Rattle.std.specs.Prelude.{◌≡◌, ◌<◌, ◌∷◌, [], length, IfOk, OnOk, OnErr, IfErr};
+ghost use Rattle.std.specs.Option.{option_to_list};
+ghost use Rattle.venue_words.specs.Conditions.{IsConfig};
+ghost use Rattle.venue_words.specs.Floors.{setup_of};
+ghost use Rattle.session_core.specs.Lookup.{text_in};
+ghost use Rattle.session_core.specs.Machine.{IsUp, on_send_one};
+ghost use Rattle.member_gate.specs.Answering.{answer, answer_stray, business_body, name_at};
+ghost use Rattle.member_gate.specs.Submitting.{TookAll, TookNone};
+
+use crate::business::{BUSINESS_REJECT, business_body};
+use crate::names::name_at;
+use crate::origin::Origin;
+use crate::refusal::DeskRefusal;
+use crate::submitting::submit;
+use exec_reports::{body, kind};
+use order_fields::tags::SYMBOL;
+use order_fields::{Decoded, Refusal, read_order};
+use session_core::lookup::text_in;
+use session_core::tags::MSG_TYPE;
+use session_core::{Request, Session};
+use std::alloc::Global;
+use std::sync::ledger::Ledger;
+use venue_words::{Bytes, Floor, NoMemory, Report, Steps};
+
+/// Answers a message whose type is not that of an order.
+fn answer_business(
+    alloc: Global,
+    session: &mut Session,
+    request: &Request,
+    moment: i64,
+) -> Result<Bytes, NoMemory>
+    requires { IsUp session.old }
+    ensures session { OnOk result (session.new ≡ (on_send_one session.old BUSINESS_REJECT
+        (business_body request.now.number (text_in MSG_TYPE request.now.fields)) moment).machine) }
+    ensures reply { IfOk result (λ frame. frame ∷ [] ≡ (on_send_one session.old BUSINESS_REJECT
+        (business_body request.now.number (text_in MSG_TYPE request.now.fields)) moment).turn.replies) }
+    ensures err { OnErr result (session.new ≡ session.old) }
+{
+    let kind = text_in(MSG_TYPE, request.fields.as_slice());
+    let body = business_body(alloc, request.number, kind)?;
+    session.send(BUSINESS_REJECT, &body, moment)
+}
+
+/// Sends the report that answers an order of a symbol that is not configured.
+fn answer_stray(
+    alloc: Global,
+    session: &mut Session,
+    origin: Origin<'_>,
+    request: &Request,
+    report: &Report,
+) -> Result<Bytes, NoMemory>
+    requires { IsUp session.old }
+    ensures session { OnOk result (session.new
+        ≡ (answer_stray (name_at origin.entry.config.now.members origin.entry.member) origin.entry.moment
+        session.old request.now report.now).session) }
+    ensures reply { IfOk result (λ frame. frame ∷ []
+        ≡ (answer_stray (name_at origin.entry.config.now.members origin.entry.member) origin.entry.moment
+        session.old request.now report.now).replies) }
+    ensures err { OnErr result (session.new ≡ session.old) }
+{
+    let symbol = text_in(SYMBOL, request.fields.as_slice());
+    let name = name_at(origin.config.members.as_slice(), origin.member);
+    let body = body(alloc, report, symbol, name)?;
+    session.send(kind(report), &body, origin.moment)
+}
+
+/// Works a message that the session handed out: it is answered at once, or a command goes to a book. After a refusal
+/// the session is as it was.
+#[tactic(auto, unfolding(crate::specs::Answering::answer))]
+pub fn answer<F: Floor, L: Ledger>(
+    alloc: Global,
+    session: &mut Session,
+    floor: &mut F,
+    origin: Origin<'_>,
+    request: &Request,
+    steps: &mut Steps<L>,
+) -> Result<Option<Bytes>, DeskRefusal>
+    requires up { IsUp session.old }
+    requires config { IsConfig origin.config.now }
+    requires setup { (F.mark floor.old).setup ≡ setup_of origin.config.now }
+    requires member { origin.member < length origin.config.now.members }
+    ensures session { OnOk result (session.new
+        ≡ (answer origin.entry.config.now origin.entry.member origin.entry.moment session.old request.now).session) }
+    ensures reply { IfOk result (λ reply. option_to_list reply
+        ≡ (answer origin.entry.config.now origin.entry.member origin.entry.moment session.old request.now).replies) }
+    ensures err { OnErr result (session.new ≡ session.old) }
+    ensures mark { F.mark floor.new ≡ F.mark floor.old }
+    ensures took { OnOk result (TookAll F.at F.step_limit (F.mark floor.old) origin.entry.feed origin.entry.moment
+        (answer origin.entry.config.now origin.entry.member origin.entry.moment session.old request.now).submissions
+        (floor.old, steps.old) (floor.new, steps.new)) }
+    ensures none { IfErr result (λ refusal. TookNone F.at F.step_limit (F.mark floor.old)
+        origin.entry.feed origin.entry.moment refusal
+        (answer origin.entry.config.now origin.entry.member origin.entry.moment session.old request.now).submissions
+        (floor.old, steps.old) (floor.new, steps.new)) }
+{
+    match read_order(alloc, request, origin.member, origin.config, origin.moment) {
+        Ok(Decoded::Book { symbol, command }) => {
+            submit(floor, origin, symbol, command, steps)?;
+            Ok(None)
+        }
+        Ok(Decoded::Stray { report }) => {
+            Ok(Some(answer_stray(alloc, session, origin, request, &report)?))
+        }
+        Err(Refusal::Reject { reason, tag }) => {
+            let moment = origin.moment;
+            Ok(Some(session.reject(request.number, request.kind, tag, reason, moment)?))
+        }
+        Err(Refusal::Business) => {
+            Ok(Some(answer_business(alloc, session, request, origin.moment)?))
+        }
+        Err(Refusal::NoMemory) => Err(DeskRefusal::NoMemory),
+    }
+}

@@ -1,0 +1,15 @@
+//! Laws of the work on a stream. Each is the contract of a function that does nothing.
+ghost use Rattle.member_gate.specs.Laws.{AnyCut, EmptyExactly};
+
+/// Where pieces are cut doesn't matter: at one moment, the replies, the commands and the session that two pieces make one
+/// after the other are those of the two joined. `AreUnread` holds of what `Desk::take` leaves unread.
+// Rules out work that depends on where a piece ends, as a frame that is lost or worked twice at a cut.
+pub fn any_cut()
+    ensures { AnyCut }
+{}
+
+/// `Desk::pull` sends nothing exactly where the session is not up, or the member has no report past the cursors.
+// Rules out a report that is passed over, and one that is sent to a member who is not there.
+pub fn empty_exactly()
+    ensures { EmptyExactly }
+{}

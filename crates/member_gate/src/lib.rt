@@ -1,0 +1,21 @@
+//! The desk of a member: what comes on his connection is framed, worked by his session and read as orders, and his
+//! reports go out. Books stand behind any floor.
+#![tactic(auto)]
+
+mod answering;
+pub mod business;
+mod desk;
+pub mod laws;
+mod names;
+mod origin;
+mod refusal;
+mod reporting;
+mod submitting;
+mod working;
+
+pub use desk::Desk;
+pub use refusal::DeskRefusal;
+pub use session_core::{EndCause, Turn};
+
+#[cfg(test)]
+mod tests;

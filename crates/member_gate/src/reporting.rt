@@ -1,0 +1,131 @@
+//! A member's reports past the cursors of his desk.
+ghost use Rattle.std.specs.Prelude.{◌≡◌, ◌≢◌, ◌≤◌, ◌<◌, ◌++◌, ℕ, [], map, drop, length, IfOk, OnOk, OnErr};
+ghost use Rattle.venue_words.specs.Conditions.{IsConfig};
+ghost use Rattle.venue_words.specs.Floors.{setup_of, TurnsRose};
+ghost use Rattle.member_gate.specs.Answering.{name_at, message_of};
+ghost use Rattle.member_gate.specs.Submitting.{Waited};
+ghost use Rattle.member_gate.specs.Reporting.{cursor_at, messages_at, messages_past, MovedOn};
+
+use crate::names::name_at;
+use exec_reports::{body, kind};
+use session_core::Message;
+use std::alloc::Global;
+use venue_words::{Bytes, Config, Floor, NoMemory, Report};
+
+/// How many reports of a symbol were gone through.
+fn cursor_at(cursors: &[u32], symbol: usize) -> u32
+    ensures { result ≡ cursor_at cursors.now symbol }
+{
+    match cursors.get(symbol) {
+        Some(cursor) => *cursor,
+        None => 0,
+    }
+}
+
+/// The cursors behind so many.
+fn behind(cursors: &[u32], count: usize) -> &[u32]
+    ensures { result.now ≡ drop count cursors.now }
+{
+    if count < cursors.len() {
+        &cursors[count..]
+    } else {
+        &[]
+    }
+}
+
+/// A report as a message.
+fn message_of(
+    alloc: Global,
+    member: &[u8],
+    symbol: &[u8],
+    report: &Report,
+) -> Result<Message, NoMemory>
+    ensures { IfOk result (λ message. message ≡ message_of member.now symbol.now report.now) }
+{
+    Ok(Message {
+        kind: kind(report),
+        body: Bytes(body(alloc, report, symbol, member)?),
+    })
+}
+
+/// Adds reports as messages.
+fn push_messages(
+    alloc: Global,
+    messages: &mut Vec<Message>,
+    member: &[u8],
+    symbol: &[u8],
+    reports: &[Report],
+) -> Result<(), NoMemory>
+    ensures { OnOk result (messages.new.items ≡ messages.old.items ++ map (message_of member.now symbol.now) reports.now) }
+{
+    for report in reports {
+        messages.push(message_of(alloc, member, symbol, report)?)?;
+    }
+    Ok(())
+}
+
+/// Adds the member's reports of a symbol from a position on, as messages, and answers how many reports there are.
+#[tactic(auto, unfolding(crate::specs::Reporting::messages_at))]
+fn look<F: Floor>(
+    alloc: Global,
+    floor: &mut F,
+    config: &Config,
+    member: u32,
+    symbol: u32,
+    from: u32,
+    messages: &mut Vec<Message>,
+) -> Result<u32, NoMemory>
+    requires config { IsConfig config.now }
+    requires setup { (F.mark floor.old).setup ≡ setup_of config.now }
+    requires member { member < length config.now.members }
+    requires symbol { symbol < length config.now.symbols }
+    ensures mark { F.mark floor.new ≡ F.mark floor.old }
+    ensures others { (other : ℕ) → other ≢ symbol → F.at floor.new other ≡ F.at floor.old other }
+    ensures waited { Waited (F.at floor.old symbol) (F.at floor.new symbol) }
+    ensures turns { OnOk result (TurnsRose (F.at floor.old symbol).turns (F.at floor.new symbol).turns) }
+    ensures messages { OnOk result (messages.new.items ≡ messages.old.items
+        ++ messages_at config.now member (name_at config.now.symbols symbol) from (F.at floor.new symbol).reports) }
+    ensures front { IfOk result (λ front. front ≡ length (F.at floor.new symbol).reports) }
+{
+    let look = floor.reports_after(symbol, member, from)?;
+    let name = name_at(config.symbols.as_slice(), symbol);
+    let own = name_at(config.members.as_slice(), member);
+    push_messages(alloc, messages, own, name, look.reports.as_slice())?;
+    Ok(look.front)
+}
+
+/// Adds all reports of the member past the cursors, as messages, and the cursors behind them. After a refusal some of
+/// both may be added.
+pub fn look_all<F: Floor>(
+    alloc: Global,
+    floor: &mut F,
+    config: &Config,
+    member: u32,
+    cursors: &[u32],
+    messages: &mut Vec<Message>,
+    fronts: &mut Vec<u32>,
+) -> Result<(), NoMemory>
+    requires config { IsConfig config.now }
+    requires setup { (F.mark floor.old).setup ≡ setup_of config.now }
+    requires member { member < length config.now.members }
+    requires messages { messages.old.items ≡ [] }
+    requires fronts { fronts.old.items ≡ [] }
+    ensures mark { F.mark floor.new ≡ F.mark floor.old }
+    ensures waited { (symbol : ℕ) → Waited (F.at floor.old symbol) (F.at floor.new symbol) }
+    ensures others { (symbol : ℕ) → length config.now.symbols ≤ symbol → F.at floor.new symbol ≡ F.at floor.old symbol }
+    ensures turns { OnOk result ((symbol : ℕ) → symbol < length config.now.symbols
+        → TurnsRose (F.at floor.old symbol).turns (F.at floor.new symbol).turns) }
+    ensures messages { OnOk result (messages.new.items
+        ≡ messages_past config.now member cursors.now (λ symbol. (F.at floor.new symbol).reports)) }
+    ensures fronts { OnOk result (MovedOn (length config.now.symbols) (λ symbol. (F.at floor.new symbol).reports)
+        cursors.now fronts.new.items) }
+{
+    let count = config.symbols.len();
+    for symbol in 0..count {
+        let from = cursor_at(cursors, symbol);
+        let front = look(alloc, floor, config, member, symbol as u32, from, messages)?;
+        fronts.push(from.max(front))?;
+    }
+    fronts.extend_from_slice(behind(cursors, count))?;
+    Ok(())
+}

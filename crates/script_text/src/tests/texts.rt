@@ -1,0 +1,44 @@
+//! Bytes as text, and back.
+use crate::{escape, unescape};
+use std::test::Fail;
+
+#[test]
+fn bytes_that_are_not_plain_are_escaped(rt: HostRuntime) -> Result<(), Fail> {
+    let bytes = b"35=A\x01|\\\x00\x7f ~\xff";
+    let text = escape(rt.alloc(), bytes)?;
+    assert_eq!(rt; text.as_slice(), b"35=A|\\7C\\5C\\00\\7F ~\\FF".as_slice());
+    let Some(back) = unescape(rt.alloc(), text.as_slice())? else {
+        return Err("back".into());
+    };
+    assert_eq!(rt; back.as_slice(), bytes.as_slice());
+    Ok(())
+}
+
+#[test]
+fn a_plain_byte_may_be_escaped_too(rt: HostRuntime) -> Result<(), Fail> {
+    let Some(bytes) = unescape(rt.alloc(), b"\\41\\01|A")? else {
+        return Err("a text".into());
+    };
+    assert_eq!(rt; bytes.as_slice(), b"A\x01\x01A".as_slice());
+    Ok(())
+}
+
+#[test]
+fn other_bytes_and_escapes_are_no_text(rt: HostRuntime) -> Result<(), Fail> {
+    let texts = [
+        b"\\".as_slice(),
+        b"A\\4".as_slice(),
+        b"\\7c".as_slice(),
+        b"\\G0".as_slice(),
+        b"\\0G".as_slice(),
+        b"\\4|".as_slice(),
+        b"\x01".as_slice(),
+        b"A\t".as_slice(),
+        b"\x7f".as_slice(),
+        b"\xc3\xa9".as_slice(),
+    ];
+    for text in texts {
+        assert!(rt; unescape(rt.alloc(), text)?.is_none(), "at {text:?}");
+    }
+    Ok(())
+}
