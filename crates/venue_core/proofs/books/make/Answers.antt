@@ -1,5 +1,5 @@
 -- The gates have the settings of the books.
-use Rattle.std.proofs.Common.{◌≡◌, ℕ, List, map, length, ◌∙◌}
+use Rattle.std.proofs.Common.{◌≡◌, List, map, length, ◌∙◌}
 use Rattle.symbol_book.specs.Book.{BookView}
 use Rattle.symbol_book.specs.Setting.{setting_of}
 use Rattle.turn_gate.specs.Seats.{GateId}

@@ -1,5 +1,5 @@
 -- The floor's mark says which gates its seats are of, and their parts.
-use Rattle.std.proofs.Common.{◌≡◌, ap, ◌∙◌}
+use Rattle.std.proofs.Common.{ap, ◌∙◌}
 use Rattle.venue_core.specs.Marks.{mark_of}
 use Rattle.venue_core.specs.SeatLaws.{same_mark_gates, same_mark_parts}
 use Rattle.venue_core.specs.Venues.{VenueId}
