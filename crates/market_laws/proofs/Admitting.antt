@@ -27,9 +27,10 @@ use Rattle.eager_meaning.specs.Trades.{orders_after_all}
 use Rattle.eager_meaning.specs.Walk.{total_of}
 use Rattle.eager_meaning.specs.Entering.{Arrival, Entered, entered, enter, accepted_order, arrival_of_new, on_new}
 use Rattle.eager_meaning.specs.Changing.{cancel, on_cancel}
+use Rattle.market_laws.specs.Pairwise.{pairwise_filter, pairwise_append, across_filter}
 use Rattle.market_laws.specs.Sound.{AreDifferent, IsNew, AllDiffer, IsHeld, IsLiveRow, IsSoundOrder, AreSound}
 use Rattle.market_laws.specs.ListLaws.{all_filter}
-use Rattle.market_laws.proofs.Differing.{differ_filter, across_filter, differ_append, takes_within}
+use Rattle.market_laws.proofs.Differing.{different_back, takes_within}
 use Rattle.market_laws.proofs.Backing.{length_after_all, held_after, still_held, live_unfilled, taker_trades, others_rest}
 use Rattle.market_laws.proofs.Naming.{get_kept, get_last, each_more, quantity_most}
 use Rattle.market_laws.proofs.Sweeping.{sound_after, walk_fits, others_live_after, differ_after, new_after, new_from, turned, recheck_sound, reprice_sound}
@@ -65,7 +66,7 @@ entered_sound n orders taker immediate own others h mine fresh a =
     let joined : Q (own ++ left) = record {
       own_live = all_append (λ x. IsLiveRow n next x.row) own left rest left_live;
       others_live = others_live;
-      own_differ = with_left AllDiffer own after a.own_differ (differ_append own after a.own_differ (new_from (total_of takes) taker own mine));
+      own_differ = with_left AllDiffer own after a.own_differ (pairwise_append AreDifferent different_back own after a.own_differ (new_from (total_of takes) taker own mine));
       others_differ = others_differ;
       differ = with_left (λ rows. AllByRecursion (λ x. IsNew x.row (rows_after takes others)) rows) own after across (all_append (λ x. IsNew x.row (rows_after takes others)) own (after ∷ []) across (after_fresh, tt));
       sound = sound;
@@ -219,9 +220,9 @@ filtered n orders p own others a =
     record {
       own_live = all_filter (λ x. IsLiveRow n orders x.row) p own a.own_live;
       others_live = all_filter (λ x. IsLiveRow n orders x.row) p others a.others_live;
-      own_differ = differ_filter p own a.own_differ;
-      others_differ = differ_filter p others a.others_differ;
-      differ = across_filter p p own others a.differ;
+      own_differ = pairwise_filter AreDifferent p own a.own_differ;
+      others_differ = pairwise_filter AreDifferent p others a.others_differ;
+      differ = across_filter AreDifferent p p own others a.differ;
       sound = a.sound;
     }
 

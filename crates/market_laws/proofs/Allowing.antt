@@ -16,6 +16,7 @@ use Rattle.eager_meaning.specs.State.{State}
 use Rattle.eager_meaning.specs.Trades.{orders_after, orders_after_all}
 use Rattle.eager_meaning.specs.Recheck.{recheck}
 use Rattle.eager_meaning.specs.Step.{runs}
+use Rattle.market_laws.specs.Equalities.{some_is}
 use Rattle.market_laws.specs.Fitting.{FillsFit, QuoteTradesFit}
 use Rattle.market_laws.specs.Placed.{side_at, opposite, IsPlaced}
 use Rattle.market_laws.specs.Sound.{AreSound, IsSoundOrder}
@@ -25,9 +26,6 @@ use Rattle.market_laws.proofs.Lasting.{rows_placed}
 use Rattle.market_laws.proofs.Meeting.{IsFairFill, recheck_fair, reprice_places}
 use Rattle.market_laws.proofs.Siding.{sides_after}
 use Rattle.market_laws.proofs.Sweeping.{recheck_sound, reprice_sound}
-
-some_order : (x y : Order) → Some x ≡ Some y → x ≡ y
-some_order x y e = cc
 
 -- no order trades more than it has left
 abbrev pub AllFit : List Fill → List Order → Type 0
@@ -56,7 +54,7 @@ rest_fit fill fills orders h k after is = go (slice_get orders k) refl where
   go None e = let none = none_after_fill fill orders k e in let no_order = sym none ∙ is in cc
   go (Some before) e =
       let found = fill_found fill orders k before e in
-      let same : found.order ≡ after = some_order _ _ (sym found.is ∙ is) in
+      let same : found.order ≡ after = some_is _ _ (sym found.is ∙ is) in
       let all = traded_cons k fill fills in
       let fits = h k before e in
       let cum : found.order.cum ≡ after.cum = ap (λ (o : Order). o.cum) same in

@@ -17,6 +17,7 @@ use Rattle.eager_meaning.specs.Orders.{changed_at}
 use Rattle.eager_meaning.specs.Trades.{order_after, orders_after, orders_after_all}
 use Rattle.eager_meaning.specs.Walk.{total_of}
 use Rattle.eager_meaning.specs.Matching.{takes_of, fill_of, fills_of, row_after, shares_of, unfilled}
+use Rattle.market_laws.specs.Equalities.{some_is}
 use Rattle.market_laws.specs.Sound.{AreDifferent, IsNew, AllDiffer, IsHeld, IsLiveRow}
 use Rattle.market_laws.proofs.Siding.{changed_next}
 use Rattle.market_laws.specs.WalkLaws.{takes_all}
@@ -43,14 +44,11 @@ pub record FoundAfter (orders : List Order) (k shares : ℕ) (before : Order) : 
   pub is : slice_get orders k ≡ Some order
   pub adds : Adds shares before order
 
-some_order : (x y : Order) → Some x ≡ Some y → x ≡ y
-some_order x y e = cc
-
 pub changed_found : (fill : Fill) (j : ℕ) (orders : List Order) (k : ℕ) (order : Order) → slice_get orders k ≡ Some order → FoundAfter (changed_at (order_after fill) j orders) k (cond (j == k) fill.quantity 0) order
 unfolding order_after
 changed_found fill j [] k order h = cc
 changed_found fill zero (o ∷ os) zero order h =
-    subst (λ (x : Order). FoundAfter (order_after fill o ∷ os) 0 fill.quantity x) (some_order _ _ h)
+    subst (λ (x : Order). FoundAfter (order_after fill o ∷ os) 0 fill.quantity x) (some_is _ _ h)
     (record { order = order_after fill o; is = refl; adds = record { cum = refl; quantity = refl; member = refl } })
 changed_found fill zero (o ∷ os) (suc k) order h =
     let e : (0 == suc k) ≡ false = grind (arith, nat_tests) in
@@ -180,7 +178,7 @@ live_unfilled n orders (x ∷ xs) a =
 -- the same order leaves the same
 pub same_leaves : (n : ℕ) (orders : List Order) (x y : Row) → IsHeld n orders x → IsHeld n orders y → x.order ≡ y.order → x.leaves ≡ y.leaves
 same_leaves n orders x y h k e =
-    let same : h.order ≡ k.order = some_order _ _ (sym h.is ∙ (ap (slice_get orders) e ∙ k.is)) in
+    let same : h.order ≡ k.order = some_is _ _ (sym h.is ∙ (ap (slice_get orders) e ∙ k.is)) in
     let q : h.order.quantity ≡ k.order.quantity = ap (λ (o : Order). o.quantity) same in
     let c : h.order.cum ≡ k.order.cum = ap (λ (o : Order). o.cum) same in
     let a = h.quantity in

@@ -13,11 +13,9 @@ use Rattle.venue_words.specs.Peg.{in_range, value_under, peg_value, far_value, n
 use Rattle.venue_words.specs.Price.{crosses, values_cross, price_shown, price_of}
 use Rattle.venue_words.specs.Priority.{is_older}
 use Rattle.eager_meaning.specs.Matching.{fill_price}
+use Rattle.market_laws.specs.Equalities.{some_is}
 use Rattle.market_laws.specs.Trading.{IsWithinQuote}
 use Rattle.market_laws.specs.Placed.{opposite}
-
-some_is : (x y : ℕ) → Some x ≡ Some y → x ≡ y
-some_is x y e = cc
 
 tested : (n : ℕ) → nat_le 1 n ≡ true → 1 ≤ n
 tested n e = grind (arith, nat_tests)

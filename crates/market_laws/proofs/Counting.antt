@@ -19,7 +19,7 @@ use Rattle.eager_meaning.specs.declared.order.Live.{Live}
 use Rattle.eager_meaning.specs.declared.trade.Take.{Take}
 use Rattle.eager_meaning.specs.State.{State, Outcome, own_rows, other_rows, with_rows, resting, with_no_notice}
 use Rattle.eager_meaning.specs.Walk.{total_of}
-use Rattle.eager_meaning.specs.Matching.{takes_of, row_after, shares_of, unfilled, rows_after}
+use Rattle.eager_meaning.specs.Matching.{takes_of, row_after, unfilled, rows_after}
 use Rattle.eager_meaning.specs.Orders.{live_named, is_used, known_of}
 use Rattle.eager_meaning.specs.Quoting.{requote, on_quote, with_quote, same_best}
 use Rattle.eager_meaning.specs.Recheck.{Sides, meet, crosses_any, sweep, recheck}
@@ -30,6 +30,8 @@ use Rattle.eager_meaning.specs.Verdict.{verdict}
 use Rattle.eager_meaning.specs.Entering.{Arrival, Entered, entered, enter, accepted_order, arrival_of_new, on_new}
 use Rattle.eager_meaning.specs.Changing.{without, cancel, on_cancel, only_lowers, with_leaves, resize, arrival_of_replace, on_replace}
 use Rattle.eager_meaning.specs.Step.{on_status, outcome_of}
+use Rattle.market_laws.specs.Equalities.{some_is}
+use Rattle.market_laws.specs.Fewer.{no_more_rows}
 use Rattle.market_laws.proofs.Admitting.{enter_counts, quote_counts}
 use Rattle.market_laws.proofs.Living.{IsLive, live_found}
 use Rattle.market_laws.proofs.Replacing.{replace_counts}
@@ -44,13 +46,6 @@ length_filter p (x ∷ xs) =
     let more = length_filter p xs in
     elim (p x) as (λ b. length (cond b (x ∷ filter p xs) (filter p xs)) ≤ length (x ∷ xs)) [ true ↦ omega arith | false ↦ omega arith ]
 
-rows_fewer : (takes : List Take) (rows : List Priced) → length (rows_after takes rows) ≤ length rows
-unfolding rows_after
-rows_fewer takes rows =
-    let less = length_filter (λ x. nat_lt 0 x.row.leaves) (map (λ x. row_after (shares_of takes x) x) rows) in
-    let same = length_map (λ x. row_after (shares_of takes x) x) rows in
-    omega arith
-
 -- the rows of both sides
 abbrev both : Sides → ℕ
 both sides = length sides.own + length sides.others
@@ -62,8 +57,8 @@ sweep_fewer (taker ∷ takers) sides =
     let takes : List Take = takes_of taker sides.others in
     let mine : List Take = record { contra = taker; shares = total_of takes } ∷ [] in
     let more = sweep_fewer takers (meet taker sides) in
-    let own = rows_fewer mine sides.own in
-    let others = rows_fewer takes sides.others in
+    let own = no_more_rows mine sides.own in
+    let others = no_more_rows takes sides.others in
     elim (crosses_any taker sides.others) as (λ b. both (cond b (sweep takers (meet taker sides)) sides) ≤ both sides) [ true ↦ omega arith | false ↦ omega arith ]
 
 recheck_fewer : (buys sells : List Priced) → length (recheck buys sells).buys + length (recheck buys sells).sells ≤ length buys + length sells
@@ -89,7 +84,7 @@ entered_fewer taker immediate own others =
     let left : List Priced = unfilled (after ∷ []) in
     let one = length_filter (λ x. nat_lt 0 x.row.leaves) (after ∷ []) in
     let joined = length-append own left in
-    let fewer = rows_fewer (takes_of taker others) others in
+    let fewer = no_more_rows (takes_of taker others) others in
     elim immediate as (λ b. length (cond b own (own ++ left)) + length (rows_after (takes_of taker others) others) ≤ length own + length others + 1)
     [ true ↦ omega (arith, fewer) | false ↦ omega (arith, one, joined, fewer) ]
 
@@ -153,16 +148,13 @@ cancel_fewer member id orig (Some live) None s =
     let a = length_filter (λ x. not (x.row.entry == live.row.row.entry)) s.sells in
     omega (arith, b, a)
 
-some_row : (x y : Priced) → Some x ≡ Some y → x ≡ y
-some_row x y e = cc
-
 -- a row that is found is taken out
 one_out : (p : Priced → Bool) (rows : List Priced) (x : Priced) → find p rows ≡ Some x → length (without x.row.entry rows) + 1 ≤ length rows
 one_out p [] x h = cc
 one_out p (y ∷ ys) x h =
     (elim (p y) as (λ b. cond b (Some y) (find p ys) ≡ Some x → length (without x.row.entry (y ∷ ys)) + 1 ≤ length (y ∷ ys)) [
       | true ↦ λ k.
-          let same : (y.row.entry == x.row.entry) ≡ true = eq-eqb _ _ (ap (λ (z : Priced). z.row.entry) (some_row _ _ k)) in
+          let same : (y.row.entry == x.row.entry) ≡ true = eq-eqb _ _ (ap (λ (z : Priced). z.row.entry) (some_is _ _ k)) in
           let less = length_filter (λ z. not (z.row.entry == x.row.entry)) ys in
           rw same (omega (arith, less))
       | false ↦ λ k.

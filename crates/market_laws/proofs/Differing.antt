@@ -1,21 +1,21 @@
 -- Rows that differ by entry and by order, and what a walk takes from each.
-use Rattle.std.proofs.Common.{◌≡◌, ℕ, ◌+◌, ◌-◌, ◌≤◌, Bool, true, false, cond, ◌&&◌, List, [], ◌∷◌, ◌++◌, Some, None, refl, sym, ◌∙◌, inl, inr, arith}
-use Rattle.std.specs.Prelude.{◌⊎◌, map, filter, fold, nat_lt, nat_le, min, sum_by, ◌==◌, unwrap_or}
+use Rattle.std.proofs.Common.{◌≡◌, ℕ, ◌+◌, ◌-◌, ◌≤◌, Bool, true, false, cond, ◌&&◌, List, [], ◌∷◌, Some, None, refl, sym, ◌∙◌, inl, inr, arith}
+use Rattle.std.specs.Prelude.{◌⊎◌, filter, nat_lt, nat_le, min, sum_by, ◌==◌, unwrap_or}
 use Rattle.std.specs.List.{AllByRecursion}
 use Rattle.std.proofs.lemmas.Bool.{ne_eqb, eq-eqb}
 use Rattle.std.proofs.lemmas.List.Sums.{sum_by-cons}
 use Rattle.venue_words.specs.declared.row.Row.{Row}
 use Rattle.venue_words.specs.declared.row.Priced.{Priced}
-use Rattle.venue_words.specs.ListLaws.{all_weaken, all_both, all_append}
+use Rattle.venue_words.specs.ListLaws.{all_weaken, all_both}
 use Rattle.venue_words.specs.Price.{crosses}
-use Rattle.venue_words.specs.Priority.{placed, in_priority, goes_before}
+use Rattle.venue_words.specs.Priority.{in_priority}
 use Rattle.eager_meaning.specs.declared.trade.Take.{Take}
 use Rattle.eager_meaning.specs.Floor.{floor}
 use Rattle.eager_meaning.specs.Walk.{walk, may_fill, taken_from, stands, total_of, least_fill}
-use Rattle.eager_meaning.specs.Matching.{takes_of, shares_of}
-use Rattle.market_laws.specs.Sound.{AreDifferent, IsNew, AllDiffer}
-use Rattle.market_laws.specs.ListLaws.{all_filter, all_map}
-use Rattle.market_laws.specs.WalkLaws.{walk_all}
+use Rattle.eager_meaning.specs.Matching.{takes_of, row_after, shares_of}
+use Rattle.market_laws.specs.Pairwise.{Keeps, IsKeptByTrades, pairwise_in_priority, TakesPairwise, takes_pairwise}
+use Rattle.market_laws.specs.Sound.{AreDifferent, AllDiffer}
+use Rattle.market_laws.specs.ListLaws.{all_filter}
 
 pub different_back : (x y : Row) → AreDifferent x y → AreDifferent y x
 different_back x y d = record { entry = λ e. d.entry (sym e); order = λ e. d.order (sym e) }
@@ -34,111 +34,30 @@ each_same_or_differs (x ∷ xs) a = (
       (λ z d more. (inr (different_back x.row z.row d), more)) xs a.0 (each_same_or_differs xs a.1),
 )
 
--- ---- lists that keep the difference
-
-pub differ_filter : (p : Priced → Bool) (rows : List Priced) → AllDiffer rows → AllDiffer (filter p rows)
-differ_filter p [] a = tt
-differ_filter p (x ∷ xs) a =
-    elim (p x) as (λ b. AllDiffer (cond b (x ∷ filter p xs) (filter p xs)))
-    [ true ↦ (all_filter (λ y. AreDifferent x.row y.row) p xs a.0, differ_filter p xs a.1) | false ↦ differ_filter p xs a.1 ]
+-- ---- changes that keep the difference
 
 -- a change that keeps entry and order
 abbrev pub KeepsNames : (Priced → Priced) → Type 0
 KeepsNames f = (x : Priced) → ((f x).row.entry ≡ x.row.entry) × ((f x).row.order ≡ x.row.order)
 
-different_kept : (f : Priced → Priced) → KeepsNames f → (x : Row) (y : Priced) → AreDifferent x y.row → AreDifferent x (f y).row
-different_kept f keeps x y d = record { entry = λ e. d.entry (e ∙ (keeps y).0); order = λ e. d.order (e ∙ (keeps y).1) }
+pub named_apart : (f : Priced → Priced) → KeepsNames f → Keeps AreDifferent f
+named_apart f keeps x y d = record { entry = λ e. d.entry (sym (keeps x).0 ∙ e); order = λ e. d.order (sym (keeps x).1 ∙ e) }
 
-pub new_map : (f : Priced → Priced) → KeepsNames f → (x : Row) (rows : List Priced) → IsNew x rows → IsNew x (map f rows)
-new_map f keeps x rows a = all_map (λ y. AreDifferent x y.row) (λ y. AreDifferent x y.row) f (λ y d. different_kept f keeps x y d) rows a
-
-pub new_of : (f : Priced → Priced) → KeepsNames f → (x : Priced) (rows : List Priced) → IsNew x.row rows → IsNew (f x).row rows
-new_of f keeps x rows a =
-    all_weaken (λ y. AreDifferent x.row y.row) (λ y. AreDifferent (f x).row y.row)
-    (λ y d. different_back y.row (f x).row (different_kept f keeps y.row x (different_back x.row y.row d))) rows a
-
-pub differ_map : (f : Priced → Priced) → KeepsNames f → (rows : List Priced) → AllDiffer rows → AllDiffer (map f rows)
-differ_map f keeps [] a = tt
-differ_map f keeps (x ∷ xs) a = (new_of f keeps x (map f xs) (new_map f keeps x.row xs a.0), differ_map f keeps xs a.1)
-
-pub across_map : (f g : Priced → Priced) → KeepsNames f → KeepsNames g → (xs ys : List Priced) → AllByRecursion (λ x. IsNew x.row ys) xs → AllByRecursion (λ x. IsNew x.row (map g ys)) (map f xs)
-across_map f g kf kg xs ys a = all_map (λ x. IsNew x.row ys) (λ x. IsNew x.row (map g ys)) f (λ x d. new_of f kf x (map g ys) (new_map g kg x.row ys d)) xs a
-
-pub across_filter : (p q : Priced → Bool) (xs ys : List Priced) → AllByRecursion (λ x. IsNew x.row ys) xs → AllByRecursion (λ x. IsNew x.row (filter q ys)) (filter p xs)
-across_filter p q xs ys a =
-    all_filter (λ x. IsNew x.row (filter q ys)) p xs (all_weaken (λ x. IsNew x.row ys) (λ x. IsNew x.row (filter q ys)) (λ x d. all_filter (λ y. AreDifferent x.row y.row) q ys d) xs a)
-
-pub across_back : (xs ys : List Priced) → AllByRecursion (λ x. IsNew x.row ys) xs → AllByRecursion (λ y. IsNew y.row xs) ys
-across_back xs [] a = tt
-across_back xs (y ∷ ys) a = (
-  all_weaken (λ x. IsNew x.row (y ∷ ys)) (λ x. AreDifferent y.row x.row) (λ x d. different_back x.row y.row d.0) xs a,
-  across_back xs ys (all_weaken (λ x. IsNew x.row (y ∷ ys)) (λ x. IsNew x.row ys) (λ x d. d.1) xs a),
-)
-
-pub differ_append : (xs : List Priced) (y : Priced) → AllDiffer xs → IsNew y.row xs → AllDiffer (xs ++ y ∷ [])
-differ_append [] y a d = (tt, tt)
-differ_append (x ∷ xs) y a d = (all_append (λ z. AreDifferent x.row z.row) xs (y ∷ []) a.0 (different_back y.row x.row d.0, tt), differ_append xs y a.1 d.1)
-
--- ---- the sorted rows
-
-new_placed : (x : Row) (y : Priced) (rows : List Priced) → AreDifferent x y.row → IsNew x rows → IsNew x (placed y rows)
-new_placed x y [] d a = (d, tt)
-new_placed x y (z ∷ zs) d a =
-    elim (goes_before y z) as (λ b. IsNew x (cond b (y ∷ z ∷ zs) (z ∷ placed y zs)))
-    [ true ↦ (d, a) | false ↦ (a.0, new_placed x y zs d a.1) ]
-
-differ_placed : (x : Priced) (rows : List Priced) → IsNew x.row rows → AllDiffer rows → AllDiffer (placed x rows)
-differ_placed x [] d a = (tt, tt)
-differ_placed x (y ∷ ys) d a =
-    elim (goes_before x y) as (λ b. AllDiffer (cond b (x ∷ y ∷ ys) (y ∷ placed x ys)))
-    [ true ↦ (d, a) | false ↦ (new_placed y.row x ys (different_back x.row y.row d.0) a.0, differ_placed x ys d.1 a.1) ]
-
-differ_sorted : (done rows : List Priced) → AllDiffer done → AllDiffer rows → AllByRecursion (λ x. IsNew x.row done) rows → AllDiffer (fold (λ ordered x. placed x ordered) done rows)
-differ_sorted done [] d a c = d
-differ_sorted done (x ∷ xs) d a c =
-    differ_sorted (placed x done) xs (differ_placed x done c.0 d) a.1
-    (all_both (λ y. AreDifferent x.row y.row) (λ y. IsNew y.row done) (λ y. IsNew y.row (placed x done)) (λ y e f. new_placed y.row x done (different_back x.row y.row e) f) xs a.0 c.1)
-
-new_of_none : (rows : List Priced) → AllByRecursion (λ x. IsNew x.row []) rows
-new_of_none [] = tt
-new_of_none (x ∷ xs) = (tt, new_of_none xs)
+pub different_kept : IsKeptByTrades AreDifferent
+unfolding row_after
+different_kept shares x y d = record { entry = d.entry; order = d.order }
 
 pub differ_in_priority : (rows : List Priced) → AllDiffer rows → AllDiffer (in_priority rows)
-unfolding in_priority
-differ_in_priority rows a = differ_sorted [] _ tt (differ_filter _ rows a) (new_of_none _)
+differ_in_priority rows a = pairwise_in_priority AreDifferent different_back rows a
 
 -- ---- the walk
 
 -- no two takes are from one row
 abbrev pub TakesDiffer : List Take → Type 0
-TakesDiffer [] = Unit {0}
-TakesDiffer (t ∷ ts) = AllByRecursion (λ u. AreDifferent t.contra.row u.contra.row) ts × TakesDiffer ts
-
-walk_differs : (taker : Priced) (left : ℕ) (contras : List Priced) → AllDiffer contras → TakesDiffer (walk taker left contras)
-unfolding walk
-walk_differs taker left [] a = tt
-walk_differs taker left (c ∷ cs) a =
-    let shares : ℕ = taken_from taker.row left c.row in
-    let take : Take = record { contra = c; shares = shares } in
-    let more : List Take = walk taker (left - shares) cs in
-    let met = walk_all (λ y. AreDifferent c.row y.row) taker (left - shares) cs a.0 in
-    elim (crosses taker c && nat_lt 0 left) as (λ b. TakesDiffer (cond b (take ∷ more) [])) [
-      | true ↦ (all_weaken (λ u. AreDifferent c.row u.contra.row × (crosses taker u.contra ≡ true)) (λ u. AreDifferent c.row u.contra.row) (λ u m. m.0) more met, walk_differs taker (left - shares) cs a.1)
-      | false ↦ tt
-    ]
-
-filter_differs : (p : Take → Bool) (takes : List Take) → TakesDiffer takes → TakesDiffer (filter p takes)
-filter_differs p [] a = tt
-filter_differs p (t ∷ ts) a =
-    elim (p t) as (λ b. TakesDiffer (cond b (t ∷ filter p ts) (filter p ts)))
-    [ true ↦ (all_filter (λ u. AreDifferent t.contra.row u.contra.row) p ts a.0, filter_differs p ts a.1) | false ↦ filter_differs p ts a.1 ]
+TakesDiffer takes = TakesPairwise AreDifferent takes
 
 pub takes_differ : (taker : Priced) (others : List Priced) → AllDiffer others → TakesDiffer (takes_of taker others)
-unfolding takes_of
-takes_differ taker others a =
-    let takes : List Take = walk taker taker.row.leaves (in_priority others) in
-    elim (stands taker.row takes) as (λ b. TakesDiffer (cond b (filter (λ take. nat_lt 0 take.shares) takes) []))
-    [ true ↦ filter_differs (λ take. nat_lt 0 take.shares) takes (walk_differs taker taker.row.leaves (in_priority others) (differ_in_priority others a)) | false ↦ tt ]
+takes_differ taker others a = takes_pairwise AreDifferent different_back taker others a
 
 -- at most what both have left is taken
 taken_most : (taker : Row) (left : ℕ) (contra : Row) → (taken_from taker left contra ≤ left) × (taken_from taker left contra ≤ contra.leaves)

@@ -1,10 +1,11 @@
 -- Lists without a double, and names that are used up.
 use Rattle.std.proofs.Common.{◌≡◌, ℕ, zero, suc, ◌+◌, Bool, true, false, cond, ◌&&◌, ◌||◌, List, [], ◌∷◌, ◌++◌, Option, Some, refl, ap, sym, ◌∙◌, subst, arith}
-use Rattle.std.specs.Prelude.{find, map, slice_get, ◌==◌}
+use Rattle.std.specs.Prelude.{find, map, option_map, slice_get, ◌==◌}
 use Rattle.std.specs.List.{AllByRecursion, list_any, enumerate_from}
 use Rattle.std.specs.Str.{bytes_eq}
 use Rattle.std.proofs.lemmas.Bool.Decides.{Decides-eqb}
 use Rattle.std.proofs.lemmas.List.Folds.{list_any-append}
+use Rattle.std.proofs.lemmas.Option.{slice_get-map}
 use Rattle.std.proofs.lemmas.Slice.Eq.{bytes_eq-Decides}
 use Rattle.venue_words.specs.ListLaws.{all_weaken, all_append}
 use Rattle.eager_meaning.specs.declared.order.Order.{Order}
@@ -135,6 +136,9 @@ last_used used name = list_any-append (is_name name.0 name.1) used (name ∷ [])
 abbrev pub names : List Order → List Name
 names orders = map name_of orders
 
+pub name_at : (orders : List Order) (k : ℕ) (order : Order) → slice_get orders k ≡ Some order → slice_get (names orders) k ≡ Some (name_of order)
+name_at orders k order h = slice_get-map name_of orders k ∙ ap (option_map name_of) h
+
 abbrev numbered : ℕ → Order → Option (ℕ × Order)
 numbered number order = Some (number, order)
 
@@ -147,18 +151,13 @@ name_found member id from (o ∷ os) d zero order h e =
     let number : from ≡ from + 0 = omega arith in
     rw is (ap (λ (n : ℕ). numbered n o) number ∙ ap (λ (x : Order). numbered (from + 0) x) same)
 name_found member id from (o ∷ os) d (suc k) order h e =
-    let other : name_of o ≡ (member, id) → ⊥ = λ same. all_get (λ n. n ≡ name_of o → ⊥) (names os) d.0 k (name_of order) (got os k h) (e ∙ sym same) in
+    let other : name_of o ≡ (member, id) → ⊥ = λ same. all_get (λ n. n ≡ name_of o → ⊥) (names os) d.0 k (name_of order) (name_at os k order h) (e ∙ sym same) in
     let more = name_found member id (from + 1) os d.1 k order h e in
     let number : from + 1 + k ≡ from + suc k = omega arith in
     (elim (is_named member id o) as (λ b. is_named member id o ≡ b → cond b (Some (from, o)) (find (λ found. is_named member id found.1) (enumerate_from (from + 1) os)) ≡ Some (from + suc k, order)) [
       | true ↦ λ is. absurd (other (name_is member id (name_of o) is))
       | false ↦ λ is. more ∙ ap (λ (n : ℕ). numbered n order) number
     ]) refl
-  where
-    got : (xs : List Order) (j : ℕ) → slice_get xs j ≡ Some order → slice_get (names xs) j ≡ Some (name_of order)
-    got [] j g = cc
-    got (x ∷ xs) zero g = let same : x ≡ order = cc in ap (λ (z : Order). Some (name_of z)) same
-    got (x ∷ xs) (suc j) g = got xs j g
 
 -- each order is found by its name
 pub found_by_name : (orders : List Order) → AreDistinct (names orders) → (k : ℕ) (order : Order) → slice_get orders k ≡ Some order → order_named order.member order.id orders ≡ Some (k, order)

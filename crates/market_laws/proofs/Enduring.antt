@@ -18,6 +18,7 @@ use Rattle.eager_meaning.specs.Showing.{row_of_order}
 use Rattle.eager_meaning.specs.State.{State, resting}
 use Rattle.eager_meaning.specs.Walk.{total_of}
 use Rattle.venue_words.specs.Priority.{in_priority}
+use Rattle.market_laws.specs.Equalities.{same_number, some_is}
 use Rattle.market_laws.specs.Sound.{IsLiveRow}
 use Rattle.market_laws.specs.Standing.{row_by_now, row_left, AreStanding}
 use Rattle.market_laws.specs.ListLaws.{all_map}
@@ -45,15 +46,6 @@ pub length_set : {A : Type 0} (xs : List A) (k : ℕ) (new : A) → length (slic
 length_set [] k new = refl
 length_set (x ∷ xs) zero new = refl
 length_set (x ∷ xs) (suc k) new = let more = length_set xs k new in omega arith
-
-pub get_front : {A : Type 0} (xs : List A) (new : A) (k : ℕ) (x : A) → slice_get xs k ≡ Some x → slice_get (xs ++ new ∷ []) k ≡ Some x
-get_front [] new k x h = cc
-get_front (y ∷ ys) new zero x h = h
-get_front (y ∷ ys) new (suc k) x h = get_front ys new k x h
-
-pub get_end : {A : Type 0} (xs : List A) (new : A) → slice_get (xs ++ new ∷ []) (length xs) ≡ Some new
-get_end [] new = refl
-get_end (x ∷ xs) new = get_end xs new
 
 -- an element of the longer list is the new one, or one of the others
 pub get_either : {A : Type 0} (xs : List A) (new : A) (k : ℕ) (x : A) → slice_get (xs ++ new ∷ []) k ≡ Some x → ((k ≡ length xs) × (new ≡ x)) ⊎ (slice_get xs k ≡ Some x)
@@ -141,9 +133,6 @@ pub record HasEntries (entries : List (Option Row)) (s : State) : Type 0 where
   pub sells : AreAsEntered entries s.sells
   pub rows : HaveRows (MayHaveRow entries) s.orders s.buys s.sells
 
-same_number : (a b : ℕ) → (a == b) ≡ true → a ≡ b
-same_number a b e = grind (arith, nat_tests)
-
 -- a row of an order is found
 some_row : (k : ℕ) (rows : List Priced) → HasRowOf k rows → row_of_order k rows ≡ None → ⊥
 unfolding row_of_order
@@ -154,16 +143,10 @@ some_row k (x ∷ xs) h e =
       | false ↦ λ f g. elim h [ inl here ↦ (let is = eq-eqb _ _ here in let both = sym f ∙ is in cc) | inr there ↦ some_row k xs there g ]
     ]) refl e
 
-some_order : (x y : Order) → Some x ≡ Some y → x ≡ y
-some_order x y e = cc
-
-same_entry : (x y : Option Row) → Some x ≡ Some y → x ≡ y
-same_entry x y e = cc
-
 -- what is left of a row is the row
 left_is : (n : ℕ) (entries : List (Option Row)) (s : State) (k : ℕ) (order : Order) (entry : Option Row) (x : Priced) → slice_get s.orders k ≡ Some order → slice_get entries k ≡ Some entry → x.row.order ≡ k → IsLiveRow n s.orders x.row → IsAsEntered entries x → Some x.row ≡ row_left order entry
 left_is n entries s k order entry x at kept number live is =
-    let same : live.held.order ≡ order = some_order _ _ (sym live.held.is ∙ (ap (slice_get s.orders) number ∙ at)) in
+    let same : live.held.order ≡ order = some_is _ _ (sym live.held.is ∙ (ap (slice_get s.orders) number ∙ at)) in
     let q : live.held.order.quantity ≡ order.quantity = ap (λ (o : Order). o.quantity) same in
     let c : live.held.order.cum ≡ order.cum = ap (λ (o : Order). o.cum) same in
     let sum = live.held.quantity in
@@ -171,7 +154,7 @@ left_is n entries s k order entry x at kept number live is =
     let more : nat_lt order.cum order.quantity ≡ true = (let less : order.cum < order.quantity = omega (arith, q, c, sum, some) in grind (arith, nat_tests)) in
     let leaves : x.row.leaves ≡ order.quantity - order.cum = omega (arith, q, c, sum) in
     let traded : x.row.traded ≡ nat_lt 0 order.cum = live.held.traded ∙ ap (nat_lt 0) c in
-    let own : Some is.entry ≡ entry = same_entry _ _ (sym is.is ∙ (ap (slice_get entries) number ∙ kept)) in
+    let own : Some is.entry ≡ entry = some_is _ _ (sym is.is ∙ (ap (slice_get entries) number ∙ kept)) in
     let now : x.row ≡ row_by_now order is.entry = is.same ∙ (ap (λ (m : ℕ). with_parts m x.row.traded is.entry) leaves ∙ ap (λ (b : Bool). with_parts (order.quantity - order.cum) b is.entry) traded) in
     rw (sym own, more) (ap Some now)
 

@@ -17,6 +17,7 @@ use Rattle.venue_words.specs.declared.row.Reference.TheVariants.{Limit}
 use Rattle.venue_words.specs.declared.row.Rounding.TheVariants.{Unrounded}
 use Rattle.eager_meaning.specs.Terms.{side_of, is_pegged, key_of, peg_reference, offset_of, rounding_of}
 use Rattle.eager_meaning.specs.Verdict.{Test, first_broken, verdict, side_code}
+use Rattle.market_laws.specs.Equalities.{some_is}
 
 -- an element that is found has its place in the list
 record IsAtPlace (orders : List Order) (from : ℕ) (found : ℕ × Order) : Type 0 where
@@ -24,14 +25,11 @@ record IsAtPlace (orders : List Order) (from : ℕ) (found : ℕ × Order) : Typ
   number : found.0 ≡ from + place
   is : slice_get orders place ≡ Some found.1
 
-some_pair : (x y : ℕ × Order) → Some x ≡ Some y → x ≡ y
-some_pair x y e = cc
-
 find_place : (test : ℕ × Order → Bool) (from : ℕ) (orders : List Order) (found : ℕ × Order) → find test (enumerate_from from orders) ≡ Some found → IsAtPlace orders from found
 find_place test from [] found h = cc
 find_place test from (order ∷ orders) found h =
     (elim (test (from, order)) as (λ b. cond b (Some (from, order)) (find test (enumerate_from (from + 1) orders)) ≡ Some found → IsAtPlace (order ∷ orders) from found) [
-      | true ↦ λ k. subst (λ (x : ℕ × Order). IsAtPlace (order ∷ orders) from x) (some_pair _ _ k) (record { place = 0; number = omega arith; is = refl })
+      | true ↦ λ k. subst (λ (x : ℕ × Order). IsAtPlace (order ∷ orders) from x) (some_is _ _ k) (record { place = 0; number = omega arith; is = refl })
       | false ↦ λ k. let r = find_place test (from + 1) orders found k in record { place = suc r.place; number = (let e = r.number in omega arith); is = r.is }
     ]) h
 
@@ -40,13 +38,10 @@ pub record IsLive (orders : List Order) (rows : List Priced) (live : Live) : Typ
   pub order : slice_get orders live.number ≡ Some live.order
   pub row : row_of_order live.number rows ≡ Some live.row
 
-some_live : (x y : Live) → Some x ≡ Some y → x ≡ y
-some_live x y e = cc
-
 row_found : (number : ℕ) (order : Order) (rows : List Priced) (orders : List Order) (row : Option Priced) (live : Live) → slice_get orders number ≡ Some order → row_of_order number rows ≡ row
     → option_map (λ x. record { number = number; order = order; row = x }) row ≡ Some live → IsLive orders rows live
 row_found number order rows orders None live at is h = cc
-row_found number order rows orders (Some x) live at is h = subst (λ (l : Live). IsLive orders rows l) (some_live _ _ h) (record { order = at; row = is })
+row_found number order rows orders (Some x) live at is h = subst (λ (l : Live). IsLive orders rows l) (some_is _ _ h) (record { order = at; row = is })
 
 named_found : (member : ℕ) (id : List ℕ) (orders : List Order) (rows : List Priced) (named : Option (ℕ × Order)) (live : Live) → order_named member id orders ≡ named → option_and_then (with_row rows) named ≡ Some live → IsLive orders rows live
 unfolding order_named

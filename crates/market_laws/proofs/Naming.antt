@@ -14,30 +14,28 @@ use Rattle.eager_meaning.specs.Orders.{changed_at, is_named, order_named, with_r
 use Rattle.eager_meaning.specs.Showing.{row_of_order}
 use Rattle.eager_meaning.specs.Terms.{quantity_in, quantity_of, within, whole_quotient}
 use Rattle.eager_meaning.specs.Verdict.{Test, first_broken, verdict, terms_tests}
+use Rattle.market_laws.specs.Equalities.{same_number, some_is}
 use Rattle.market_laws.proofs.Siding.{changed_next}
 
-some_order : (x y : Order) → Some x ≡ Some y → x ≡ y
-some_order x y e = cc
+pub get_kept : {A : Type 0} (xs : List A) (new : A) (k : ℕ) (there : A) → slice_get xs k ≡ Some there → slice_get (xs ++ new ∷ []) k ≡ Some there
+get_kept [] new k there h = cc
+get_kept (x ∷ xs) new zero there h = h
+get_kept (x ∷ xs) new (suc k) there h = get_kept xs new k there h
 
-pub get_kept : (orders : List Order) (order : Order) (k : ℕ) (found : Order) → slice_get orders k ≡ Some found → slice_get (orders ++ order ∷ []) k ≡ Some found
-get_kept [] order k found h = cc
-get_kept (o ∷ os) order zero found h = h
-get_kept (o ∷ os) order (suc k) found h = get_kept os order k found h
-
-pub get_last : (orders : List Order) (order : Order) → slice_get (orders ++ order ∷ []) (length orders) ≡ Some order
-get_last [] order = refl
-get_last (o ∷ os) order = get_last os order
+pub get_last : {A : Type 0} (xs : List A) (new : A) → slice_get (xs ++ new ∷ []) (length xs) ≡ Some new
+get_last [] new = refl
+get_last (x ∷ xs) new = get_last xs new
 
 -- what holds of each order and of one more
 pub each_more : (P : Order → Type 0) (orders : List Order) (order : Order) → ((k : ℕ) (x : Order) → slice_get orders k ≡ Some x → P x) → P order → (k : ℕ) (x : Order) → slice_get (orders ++ order ∷ []) k ≡ Some x → P x
-each_more P [] order h p zero x e = subst P (some_order _ _ e) p
+each_more P [] order h p zero x e = subst P (some_is _ _ e) p
 each_more P [] order h p (suc k) x e = cc
 each_more P (o ∷ os) order h p zero x e = h 0 x e
 each_more P (o ∷ os) order h p (suc k) x e = each_more P os order (λ j y f. h (suc j) y f) p k x e
 
 pub get_changed : (f : Order → Order) (k : ℕ) (orders : List Order) (order : Order) → slice_get orders k ≡ Some order → slice_get (changed_at f k orders) k ≡ Some (f order)
 get_changed f k [] order h = cc
-get_changed f zero (o ∷ os) order h = ap (λ (x : Order). Some (f x)) (some_order _ _ h)
+get_changed f zero (o ∷ os) order h = ap (λ (x : Order). Some (f x)) (some_is _ _ h)
 get_changed f (suc k) (o ∷ os) order h = rw (changed_next f k o os) (get_changed f k os order h)
 
 pub get_other : (f : Order → Order) (k j : ℕ) (orders : List Order) → (k ≡ j → ⊥) → slice_get (changed_at f k orders) j ≡ slice_get orders j
@@ -51,7 +49,7 @@ get_other f (suc k) (suc j) (o ∷ os) d = rw (changed_next f k o os) (get_other
 pub each_changed : (P : Order → Type 0) (f : Order → Order) (k : ℕ) (orders : List Order) (order : Order) → ((j : ℕ) (x : Order) → slice_get orders j ≡ Some x → P x) → slice_get orders k ≡ Some order → P (f order) → (j : ℕ) (x : Order) → slice_get (changed_at f k orders) j ≡ Some x → P x
 each_changed P f k [] order h at p j x e = cc
 each_changed P f zero (o ∷ os) order h at p zero x e =
-    let same : f order ≡ x = ap f (sym (some_order _ _ at)) ∙ some_order _ _ e in
+    let same : f order ≡ x = ap f (sym (some_is _ _ at)) ∙ some_is _ _ e in
     subst P same p
 each_changed P f zero (o ∷ os) order h at p (suc j) x e = h (suc j) x e
 each_changed P f (suc k) (o ∷ os) order h at p zero x e = h 0 x (subst (λ (os2 : List Order). slice_get os2 0 ≡ Some x) (changed_next f k o os) e)
@@ -59,26 +57,20 @@ each_changed P f (suc k) (o ∷ os) order h at p (suc j) x e = each_changed P f 
 
 -- ---- the row and the member of a live order
 
-some_row : (x y : Priced) → Some x ≡ Some y → x ≡ y
-some_row x y e = cc
-
 -- a row that is found is one of the rows, and passes
 pub find_passes : (P : Priced → Type 0) (p : Priced → Bool) (rows : List Priced) (x : Priced) → AllByRecursion P rows → find p rows ≡ Some x → P x × (p x ≡ true)
 find_passes P p [] x a h = cc
 find_passes P p (y ∷ ys) x a h =
     (elim (p y) as (λ b. p y ≡ b → cond b (Some y) (find p ys) ≡ Some x → P x × (p x ≡ true)) [
-      | true ↦ λ e k. subst (λ (z : Priced). P z × (p z ≡ true)) (some_row _ _ k) (a.0, e)
+      | true ↦ λ e k. subst (λ (z : Priced). P z × (p z ≡ true)) (some_is _ _ k) (a.0, e)
       | false ↦ λ e k. find_passes P p ys x a.1 k
     ]) refl h
-
-some_pair : (x y : ℕ × Order) → Some x ≡ Some y → x ≡ y
-some_pair x y e = cc
 
 pair_passes : (test : ℕ × Order → Bool) (pairs : List (ℕ × Order)) (found : ℕ × Order) → find test pairs ≡ Some found → test found ≡ true
 pair_passes test [] found h = cc
 pair_passes test (x ∷ xs) found h =
     (elim (test x) as (λ b. test x ≡ b → cond b (Some x) (find test xs) ≡ Some found → test found ≡ true) [
-      | true ↦ λ e k. subst (λ (z : ℕ × Order). test z ≡ true) (some_pair _ _ k) e
+      | true ↦ λ e k. subst (λ (z : ℕ × Order). test z ≡ true) (some_is _ _ k) e
       | false ↦ λ e k. pair_passes test xs found k
     ]) refl h
 
@@ -86,15 +78,9 @@ first_true : (a b : Bool) → (a && b) ≡ true → a ≡ true
 first_true true b h = refl
 first_true false b h = cc
 
-same_number : (a b : ℕ) → (a == b) ≡ true → a ≡ b
-same_number a b e = grind (arith, nat_tests)
-
-some_live : (x y : Live) → Some x ≡ Some y → x ≡ y
-some_live x y e = cc
-
 with_row_order : (found : ℕ × Order) (row : Option Priced) (live : Live) → option_map (λ x. record { number = found.0; order = found.1; row = x }) row ≡ Some live → found.1 ≡ live.order
 with_row_order found None live h = cc
-with_row_order found (Some x) live h = ap (λ (l : Live). l.order) (some_live _ _ h)
+with_row_order found (Some x) live h = ap (λ (l : Live). l.order) (some_is _ _ h)
 
 named_member : (member : ℕ) (id : List ℕ) (orders : List Order) (rows : List Priced) (named : Option (ℕ × Order)) (live : Live) → order_named member id orders ≡ named → option_and_then (with_row rows) named ≡ Some live → live.order.member ≡ member
 unfolding order_named

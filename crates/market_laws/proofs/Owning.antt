@@ -16,6 +16,7 @@ use Rattle.eager_meaning.specs.Recheck.{Sides, sweep, recheck}
 use Rattle.eager_meaning.specs.Trades.{orders_after_all}
 use Rattle.eager_meaning.specs.Walk.{total_of}
 use Rattle.eager_meaning.specs.Entering.{entered}
+use Rattle.market_laws.specs.Equalities.{some_is}
 use Rattle.market_laws.specs.Sound.{IsNew, IsHeld, AreSound}
 use Rattle.market_laws.proofs.Backing.{found_after, none_before, held_after, taker_trades}
 use Rattle.market_laws.proofs.Differing.{IsSameOrDiffers, takes_within}
@@ -39,13 +40,10 @@ pub row_mapped : (f : Priced → Priced) → ((x : Priced) → (f x).row.order �
 row_mapped f keeps k [] h = h
 row_mapped f keeps k (x ∷ xs) h = elim h [ inl here ↦ inl (keeps x ∙ here) | inr there ↦ inr (row_mapped f keeps k xs there) ]
 
-some_order : (x y : Order) → Some x ≡ Some y → x ≡ y
-some_order x y e = cc
-
 -- the row of an order with shares left is not filled
 left_over : (n : ℕ) (orders : List Order) (x : Priced) (order : Order) → IsHeld n orders x.row → slice_get orders x.row.order ≡ Some order → order.cum < order.quantity → nat_lt 0 x.row.leaves ≡ true
 left_over n orders x order h at more =
-    let same : h.order ≡ order = some_order _ _ (sym h.is ∙ at) in
+    let same : h.order ≡ order = some_is _ _ (sym h.is ∙ at) in
     let q : h.order.quantity ≡ order.quantity = ap (λ (o : Order). o.quantity) same in
     let c : h.order.cum ≡ order.cum = ap (λ (o : Order). o.cum) same in
     let sum = h.quantity in
@@ -87,7 +85,7 @@ had_more fills orders k after at more = go (slice_get orders k) refl where
   go None e = let none = none_before fills orders k e in let no_order = sym none ∙ at in cc
   go (Some before) e =
       let found = found_after fills orders k before e in
-      let same : found.order ≡ after = some_order _ _ (sym found.is ∙ at) in
+      let same : found.order ≡ after = some_is _ _ (sym found.is ∙ at) in
       let c : found.order.cum ≡ after.cum = ap (λ (o : Order). o.cum) same in
       let q : found.order.quantity ≡ after.quantity = ap (λ (o : Order). o.quantity) same in
       let sum = found.adds.cum in

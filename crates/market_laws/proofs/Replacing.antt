@@ -3,7 +3,6 @@ use Rattle.std.proofs.Common.{◌≡◌, ℕ, ◌+◌, ◌-◌, ◌<◌, ◌≤�
 use Rattle.std.specs.Prelude.{slice_get, map, nat_lt, ◌==◌}
 use Rattle.std.specs.List.{AllByRecursion}
 use Rattle.std.proofs.lemmas.Bool.{ne_eqb, eq-eqb}
-use Rattle.std.proofs.lemmas.Bool.Decides.{nat_tests}
 use Rattle.venue_words.specs.declared.command.Command.TheVariants.{Replace}
 use Rattle.venue_words.specs.declared.command.Rule.{Rule}
 use Rattle.venue_words.specs.declared.command.Terms.{Terms}
@@ -19,9 +18,11 @@ use Rattle.eager_meaning.specs.Terms.{row_of, quantity_of}
 use Rattle.eager_meaning.specs.Verdict.{verdict}
 use Rattle.eager_meaning.specs.Entering.{Arrival, enter}
 use Rattle.eager_meaning.specs.Changing.{without, replaced_order, only_lowers, with_leaves, resize, arrival_of_replace, on_replace}
+use Rattle.market_laws.specs.Equalities.{same_number, some_is}
+use Rattle.market_laws.specs.Pairwise.{pairwise_map, across_map}
 use Rattle.market_laws.specs.Sound.{AreDifferent, IsNew, AllDiffer, IsLiveRow, IsSoundOrder, AreSound}
 use Rattle.market_laws.specs.ListLaws.{all_filter, all_map}
-use Rattle.market_laws.proofs.Differing.{KeepsNames, IsSameOrDiffers, each_same_or_differs, differ_map, across_map}
+use Rattle.market_laws.proofs.Differing.{different_back, KeepsNames, named_apart, IsSameOrDiffers, each_same_or_differs}
 use Rattle.market_laws.proofs.Backing.{length_changed}
 use Rattle.market_laws.proofs.Living.{IsLive, live_found}
 use Rattle.market_laws.proofs.Naming.{get_changed, get_other, each_changed, find_passes, live_member, quantity_most, quantity_above}
@@ -38,9 +39,6 @@ pub record IsAmong (n : ℕ) (s : State) (live : Live) : Type 0 where
   pub buys : AllByRecursion (λ y. IsSameOrDiffers live.row.row y.row) s.buys
   pub sells : AllByRecursion (λ y. IsSameOrDiffers live.row.row y.row) s.sells
 
-same_number : (a b : ℕ) → (a == b) ≡ true → a ≡ b
-same_number a b e = grind (arith, nat_tests)
-
 pub among : (n : ℕ) (s : State) (live : Live) → RowsAgree n s → IsLive s.orders (resting s) live → IsAmong n s live
 unfolding row_of_order
 among n s live a is =
@@ -56,9 +54,6 @@ other_row : (n : ℕ) (orders : List Order) (f : Order → Order) (number : ℕ)
 other_row n orders f number row d l =
     let h = l.held in
     record { held = record { order = h.order; is = get_other f number row.order orders d ∙ h.is; member = h.member; quantity = h.quantity; traded = h.traded; entered = h.entered }; left = l.left }
-
-some_order : (x y : Order) → Some x ≡ Some y → x ≡ y
-some_order x y e = cc
 
 keeps_leaves : (entry leaves : ℕ) → KeepsNames (with_leaves entry leaves)
 keeps_leaves entry leaves x =
@@ -86,7 +81,7 @@ module _ (tick n : ℕ) (id : List ℕ) (terms : Terms) (live : Live) (s : State
             let e : (x.row.entry == r.row.entry) ≡ true = eq-eqb _ _ same.0 in
             let order : live.number ≡ x.row.order = sym (same.1 ∙ number) in
             let here : slice_get orders x.row.order ≡ Some (f live.order) = subst (λ (k : ℕ). slice_get orders k ≡ Some (f live.order)) order (get_changed f live.number s.orders live.order at) in
-            let old : l.held.order ≡ live.order = some_order _ _ (sym l.held.is ∙ (ap (slice_get s.orders) (sym order) ∙ at)) in
+            let old : l.held.order ≡ live.order = some_is _ _ (sym l.held.is ∙ (ap (slice_get s.orders) (sym order) ∙ at)) in
             rw e (record {
               held = record {
                 order = f live.order;
@@ -114,14 +109,14 @@ module _ (tick n : ℕ) (id : List ℕ) (terms : Terms) (live : Live) (s : State
       let entry : ℕ = live.row.row.entry in
       let leaves : ℕ = quantity_of terms - live.order.cum in
       let f : Priced → Priced = with_leaves entry leaves in
-      let keeps = keeps_leaves entry leaves in
+      let keeps = named_apart f (keeps_leaves entry leaves) in
       let each : (x : Priced) → IsSameOrDiffers live.row.row x.row → IsLiveRow n s.orders x.row → IsLiveRow n orders (f x).row = λ x d l. resized_row live.row x m.number d l in
       record {
         own_live = all_map (λ x. IsLiveRow n orders (f x).row) (λ x. IsLiveRow n orders x.row) f (λ x p. p) s.buys (all_both (λ x. IsSameOrDiffers live.row.row x.row) (λ x. IsLiveRow n s.orders x.row) (λ x. IsLiveRow n orders (f x).row) each s.buys m.buys a.own_live);
         others_live = all_map (λ x. IsLiveRow n orders (f x).row) (λ x. IsLiveRow n orders x.row) f (λ x p. p) s.sells (all_both (λ x. IsSameOrDiffers live.row.row x.row) (λ x. IsLiveRow n s.orders x.row) (λ x. IsLiveRow n orders (f x).row) each s.sells m.sells a.others_live);
-        own_differ = differ_map f keeps s.buys a.own_differ;
-        others_differ = differ_map f keeps s.sells a.others_differ;
-        differ = across_map f f keeps keeps s.buys s.sells a.differ;
+        own_differ = pairwise_map AreDifferent different_back f keeps s.buys a.own_differ;
+        others_differ = pairwise_map AreDifferent different_back f keeps s.sells a.others_differ;
+        differ = across_map AreDifferent different_back f f keeps keeps s.buys s.sells a.differ;
         sound = changed_sound a.sound;
       }
 

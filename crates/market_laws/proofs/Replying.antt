@@ -19,6 +19,7 @@ use Rattle.eager_meaning.specs.Showing.{view_of, view_at, view_live, view_closed
 use Rattle.eager_meaning.specs.Trades.{orders_after, trade_notice, trade_notices}
 use Rattle.eager_meaning.specs.Entering.{leftover_notice, leftover_notices, enter, arrival_of_new, on_new, accepted_order}
 use Rattle.eager_meaning.specs.Step.{Run, runs, step, outcome_of, reports_from}
+use Rattle.market_laws.specs.Equalities.{some_is}
 use Rattle.market_laws.specs.Replies.{AreToldBy, IsAt, ReportsAreInPlace, answers_new, rule_broken, IsAnswer, IsAnsweredOnce, NewIsAnsweredOnce}
 use Rattle.market_laws.proofs.Growing.{runs_append}
 use Rattle.market_laws.specs.ListLaws.{all_found, all_flat}
@@ -28,9 +29,6 @@ pub told_by : (markets tick : ℕ) (history : List Event) (event : Event)
     → AreToldBy markets tick history event (reports_from 1 event (outcome_of tick event.number event.command (runs markets tick history).state).notices)
 unfolding step
 told_by markets tick history event = ap (λ (r : Run). r.reports) (runs_append markets tick history (event ∷ []))
-
-some_is : (x y : Report) → Some x ≡ Some y → x ≡ y
-some_is x y e = cc
 
 placed_from : (place : ℕ) (event : Event) (notices : List Notice) (k : ℕ) (report : Report) → slice_get (reports_from place event notices) k ≡ Some report → IsAt event (place + k) report
 unfolding reports_from

@@ -32,6 +32,7 @@ use Rattle.eager_meaning.specs.Verdict.{verdict}
 use Rattle.eager_meaning.specs.Entering.{Arrival, Entered, entered, enter, accepted_order, arrival_of_new, on_new}
 use Rattle.eager_meaning.specs.Changing.{without, cancel, on_cancel, replaced_order, only_lowers, with_leaves, resize, arrival_of_replace, on_replace}
 use Rattle.eager_meaning.specs.Step.{Run, runs, step, on_status, outcome_of}
+use Rattle.market_laws.specs.Equalities.{some_is}
 use Rattle.market_laws.specs.Sound.{AreDifferent, IsSound}
 use Rattle.market_laws.specs.Standing.{if_it_rests, entries_after, EntryRun, entry_step, AreStanding, RowsStand, same_run}
 use Rattle.market_laws.specs.ListLaws.{all_filter, all_map}
@@ -39,9 +40,9 @@ use Rattle.market_laws.proofs.Admitting.{RowsAgree, IsSoundArrival, new_arrival,
 use Rattle.market_laws.proofs.Agreeing.{step_sound, no_order}
 use Rattle.market_laws.proofs.Backing.{length_after_all, length_changed}
 use Rattle.market_laws.proofs.Differing.{IsSameOrDiffers}
-use Rattle.market_laws.proofs.Enduring.{get_set, get_set_other, length_set, get_front, get_end, get_either, IsAsEntered, AreAsEntered, with_parts, entered_repriced, entered_rechecked, entered_entered, MayHaveRow, HasEntries, stands}
+use Rattle.market_laws.proofs.Enduring.{get_set, get_set_other, length_set, get_either, IsAsEntered, AreAsEntered, with_parts, entered_repriced, entered_rechecked, entered_entered, MayHaveRow, HasEntries, stands}
 use Rattle.market_laws.proofs.Living.{live_found}
-use Rattle.market_laws.proofs.Naming.{get_other}
+use Rattle.market_laws.proofs.Naming.{get_kept, get_last, get_other}
 use Rattle.market_laws.proofs.Numbering.{kept_by_all, numbered_from_none}
 use Rattle.market_laws.proofs.Owning.{HasRowOf, HaveRows, row_mapped, turned_rows, rechecked_rows, repriced_rows, entered_rows}
 use Rattle.market_laws.proofs.Replacing.{IsAmong, among, rest_differ, replace_arrival}
@@ -128,8 +129,8 @@ new_stands tick n member id terms s entries a h =
     let kept : Option Row = if_it_rests (is_immediate terms) row in
     let order : Order = accepted_order tick (n + 1) member id terms in
     let more : List (Option Row) = entries ++ kept ∷ [] in
-    let still : (x : Priced) → IsAsEntered entries x → IsAsEntered more x = λ x p. record { entry = p.entry; is = get_front entries kept x.row.order (Some p.entry) p.is; same = p.same } in
-    let last : slice_get more (length s.orders) ≡ Some kept = subst (λ (k : ℕ). slice_get more k ≡ Some kept) h.count (get_end entries kept) in
+    let still : (x : Priced) → IsAsEntered entries x → IsAsEntered more x = λ x p. record { entry = p.entry; is = get_kept entries kept x.row.order (Some p.entry) p.is; same = p.same } in
+    let last : slice_get more (length s.orders) ≡ Some kept = subst (λ (k : ℕ). slice_get more k ≡ Some kept) h.count (get_last entries kept) in
     enter_stands (n + 1) (arrival_of_new tick (n + 1) member id terms s) more (new_arrival tick n member id terms s a)
     (record {
       count = (let one = length-append entries (kept ∷ []) in let other = length-append s.orders (order ∷ []) in let same = h.count in omega (arith, one, other, same));
@@ -199,9 +200,6 @@ same_or_not a b =
     same_number : (a == b) ≡ true → a ≡ b
     same_number e = grind (arith, nat_tests)
 
-same_entry : (x y : Option Row) → Some x ≡ Some y → x ≡ y
-same_entry x y e = cc
-
 none_kept : (entry : Row) → None ≡ Some entry → ⊥
 none_kept entry e = cc
 
@@ -213,21 +211,18 @@ cancel_stands n s live entries m within h =
       buys = out_entered n s live m entries h within None s.buys m.buys h.buys;
       sells = out_entered n s live m entries h within None s.sells m.sells h.sells;
       rows = λ k order may at more. elim (same_or_not live.number k) [
-        | inl same ↦ absurd (none_kept may.0 (same_entry _ _ (sym (set_here n s live m entries h within None) ∙ (ap (slice_get (slice_set entries live.number None)) same ∙ may.1))))
+        | inl same ↦ absurd (none_kept may.0 (some_is _ _ (sym (set_here n s live m entries h within None) ∙ (ap (slice_get (slice_set entries live.number None)) same ∙ may.1))))
         | inr other ↦ out_still n s live m entries h within None k other may order at more
       ];
     }
 
 -- ---- a Replace
 
-some_order : (x y : Order) → Some x ≡ Some y → x ≡ y
-some_order x y e = cc
-
 -- the live order has shares left
 live_left : (n : ℕ) (s : State) (live : Live) → IsAmong n s live → slice_get s.orders live.number ≡ Some live.order → live.order.cum < live.order.quantity
 live_left n s live m at =
     let held = m.row.held in
-    let same : held.order ≡ live.order = some_order _ _ (sym held.is ∙ (ap (slice_get s.orders) m.number ∙ at)) in
+    let same : held.order ≡ live.order = some_is _ _ (sym held.is ∙ (ap (slice_get s.orders) m.number ∙ at)) in
     let q : held.order.quantity ≡ live.order.quantity = ap (λ (o : Order). o.quantity) same in
     let c : held.order.cum ≡ live.order.cum = ap (λ (o : Order). o.cum) same in
     let sum = held.quantity in
@@ -276,7 +271,7 @@ anew_stands tick n member id orig terms live used s entries is v a m within h =
       sells = out_entered (n + 1) s live m entries h within kept s.sells m.sells h.sells;
       taker = λ e. record { entry = row; is = here ∙ ap Some (rests (is_immediate terms) row e); same = refl };
       rows = λ k may. elim (same_or_not live.number k) [
-        | inl same ↦ inl (sym same, may_rest (is_immediate terms) row may.0 (same_entry _ _ (sym here ∙ (ap (slice_get (slice_set entries live.number kept)) same ∙ may.1))))
+        | inl same ↦ inl (sym same, may_rest (is_immediate terms) row may.0 (some_is _ _ (sym here ∙ (ap (slice_get (slice_set entries live.number kept)) same ∙ may.1))))
         | inr other ↦ inr (λ order at more. out_still (n + 1) s live m entries h within kept k other may order (sym (get_other change live.number k s.orders other) ∙ at) more)
       ];
     })

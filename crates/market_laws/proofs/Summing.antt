@@ -34,6 +34,7 @@ use Rattle.eager_meaning.specs.Entering.{Arrival, Entered, entered, leftover_not
 use Rattle.eager_meaning.specs.Changing.{cancel, on_cancel, replaced_order, only_lowers, resize, arrival_of_replace, on_replace}
 use Rattle.eager_meaning.specs.Orders.{order_named, changed_at}
 use Rattle.eager_meaning.specs.Step.{Run, runs, step, view_now, on_status, outcome_of, reports_from}
+use Rattle.market_laws.specs.Equalities.{some_is}
 use Rattle.market_laws.specs.Orders.{shares_of_order, shares_told_of, CumIsSumOfTrades}
 use Rattle.market_laws.specs.ListLaws.{all_found, all_flat}
 use Rattle.market_laws.proofs.Siding.{changed_next}
@@ -349,12 +350,9 @@ same_cond k cum = grind (arith, nat_tests)
 other_cond : (k first cum : ℕ) → k < first → cond (k == first) cum 0 ≡ 0
 other_cond k first cum h = grind (arith, nat_tests)
 
-some_order : (x y : Order) → Some x ≡ Some y → x ≡ y
-some_order x y e = cc
-
 all_at : (P : ℕ → Type 0) (orders : List Order) (k : ℕ) (order : Order) → AllByRecursion P (map (λ o. o.first) orders) → slice_get orders k ≡ Some order → P order.first
 all_at P [] k order a h = cc
-all_at P (o ∷ os) zero order a h = subst (λ (x : Order). P x.first) (some_order _ _ h) a.0
+all_at P (o ∷ os) zero order a h = subst (λ (x : Order). P x.first) (some_is _ _ h) a.0
 all_at P (o ∷ os) (suc k) order a h = all_at P os k order a.1 h
 
 cum_at : (n : ℕ) (orders : List Order) (k : ℕ) (order : Order) → AreRising n (map (λ o. o.first) orders) → slice_get orders k ≡ Some order → order.cum ≡ cum_of order.first orders
@@ -362,7 +360,7 @@ cum_at n [] k order a h = cc
 cum_at n (o ∷ os) zero order a h =
     let here : o.cum ≡ cum_of o.first (o ∷ os) =
     (let all = cum_cons o.first o os in let rest = none_of o.first os a.1 in let own = same_cond o.first o.cum in omega (arith, all, rest, own)) in
-    subst (λ (x : Order). x.cum ≡ cum_of x.first (o ∷ os)) (some_order _ _ h) here
+    subst (λ (x : Order). x.cum ≡ cum_of x.first (o ∷ os)) (some_is _ _ h) here
 cum_at n (o ∷ os) (suc k) order a h =
     let more = cum_at n os k order a.2 h in
     let all = cum_cons order.first o os in

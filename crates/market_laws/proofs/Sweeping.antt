@@ -1,9 +1,8 @@
 -- A walk, a sweep and a recheck leave rows and orders that agree.
 use Rattle.std.proofs.Common.{◌≡◌, ℕ, ◌+◌, ◌≤◌, true, false, cond, List, [], ◌∷◌, ◌++◌, Option, Some, None, refl, ap, sym, ◌∙◌, subst, inl, inr, arith}
-use Rattle.std.specs.Prelude.{slice_get, map, nat_lt, nat_eq, ◌==◌}
+use Rattle.std.specs.Prelude.{slice_get, map, nat_eq, ◌==◌}
 use Rattle.std.specs.Option.{option_eq}
 use Rattle.std.specs.List.{AllByRecursion}
-use Rattle.std.proofs.lemmas.Bool.Decides.{nat_tests}
 use Rattle.std.proofs.lemmas.List.Sums.{fold-append}
 use Rattle.venue_words.specs.declared.price.Best.{Best}
 use Rattle.venue_words.specs.declared.row.Row.{Row}
@@ -19,19 +18,15 @@ use Rattle.eager_meaning.specs.Trades.{orders_after, orders_after_all}
 use Rattle.eager_meaning.specs.Walk.{total_of}
 use Rattle.eager_meaning.specs.Matching.{takes_of, fills_of, row_after, shares_of, rows_after}
 use Rattle.eager_meaning.specs.Recheck.{Sides, meet, crosses_any, sweep, recheck}
+use Rattle.market_laws.specs.Equalities.{same_number, some_is}
+use Rattle.market_laws.specs.Pairwise.{Keeps, to_each_after, pairwise_map, pairwise_after, across_map, across_after, across_back}
 use Rattle.market_laws.specs.Sound.{AreDifferent, IsNew, AllDiffer, IsHeld, IsLiveRow, IsSoundOrder, AreSound}
 use Rattle.market_laws.specs.ListLaws.{all_map}
 use Rattle.market_laws.specs.WalkLaws.{rows_after_all, in_priority_all}
-use Rattle.market_laws.proofs.Differing.{different_back, KeepsNames, IsSameOrDiffers, each_same_or_differs, differ_filter, differ_map, across_map, across_back, differ_in_priority, TakesDiffer, takes_differ, takes_within, taken_by, taken_cons, none_taken, Fits, shares_found}
+use Rattle.market_laws.proofs.Differing.{different_back, different_kept, IsSameOrDiffers, each_same_or_differs, differ_in_priority, TakesDiffer, takes_differ, takes_within, taken_by, taken_cons, none_taken, Fits, shares_found}
 use Rattle.market_laws.proofs.Backing.{traded_in, found_after, none_before, traded_by_walk, held_after, still_held, live_unfilled, same_leaves, IsFit, takes_fit, no_take, takes_new, taker_trades, others_rest, met_held}
 
 -- ---- orders after a walk
-
-some_order : (x y : Order) → Some x ≡ Some y → x ≡ y
-some_order x y e = cc
-
-same_number : (a b : ℕ) → (a == b) ≡ true → a ≡ b
-same_number a b e = grind (arith, nat_tests)
 
 -- no more is taken from an order than it has left
 room : (n : ℕ) (orders : List Order) (takes : List Take) → AllByRecursion (IsFit n orders) takes → TakesDiffer takes → (k : ℕ) (order : Order) → slice_get orders k ≡ Some order → order.cum ≤ order.quantity → taken_by k takes + order.cum ≤ order.quantity
@@ -43,7 +38,7 @@ room n orders (t ∷ ts) f d k order h s =
       | true ↦ λ e.
           let at = same_number _ _ e in
           let held = f.0.0 in
-          let same : held.order ≡ order = some_order _ _ (sym held.is ∙ (ap (slice_get orders) at ∙ h)) in
+          let same : held.order ≡ order = some_is _ _ (sym held.is ∙ (ap (slice_get orders) at ∙ h)) in
           let cum : held.order.cum ≡ order.cum = ap (λ (o : Order). o.cum) same in
           let quantity : held.order.quantity ≡ order.quantity = ap (λ (o : Order). o.quantity) same in
           let sum = held.quantity in
@@ -64,39 +59,24 @@ sound_after orders fills h k after is = go (slice_get orders k) refl where
   go (Some before) e =
       let found = found_after fills orders k before e in
       let fits = h k before e in
-      let same : found.order ≡ after = some_order _ _ (sym found.is ∙ is) in
+      let same : found.order ≡ after = some_is _ _ (sym found.is ∙ is) in
       subst IsSoundOrder same (record {
         traded = (let c = found.adds.cum in let q = found.adds.quantity in let f = fits.1 in omega arith);
         quantity = (let q = found.adds.quantity in let f = fits.0.quantity in omega arith);
       })
-
-pub keeps_row_after : (shares : Priced → ℕ) → KeepsNames (λ x. row_after (shares x) x)
-unfolding row_after
-keeps_row_after shares x = (refl, refl)
-
-pub differ_after : (takes : List Take) (rows : List Priced) → AllDiffer rows → AllDiffer (rows_after takes rows)
-unfolding rows_after
-differ_after takes rows a = differ_filter (λ x. nat_lt 0 x.row.leaves) _ (differ_map (λ x. row_after (shares_of takes x) x) (keeps_row_after (shares_of takes)) rows a)
-
-different_after : (x : Row) (m : ℕ) (y : Priced) → AreDifferent x y.row → AreDifferent x (row_after m y).row
-unfolding row_after
-different_after x m y d = record { entry = d.entry; order = d.order }
 
 same_or_differs_after : (x : Row) (m : ℕ) (y : Priced) → IsSameOrDiffers x y.row → IsSameOrDiffers x (row_after m y).row
 unfolding row_after
 same_or_differs_after x m y d = elim d [ inl same ↦ inl same | inr other ↦ inr (record { entry = other.entry; order = other.order }) ]
 
 pub new_after : (x : Row) (takes : List Take) (rows : List Priced) → IsNew x rows → IsNew x (rows_after takes rows)
-new_after x takes rows a = rows_after_all (λ y. AreDifferent x y.row) (λ m y d. different_after x m y d) takes rows a
+new_after x takes rows a = to_each_after AreDifferent different_back different_kept x takes rows a
 
 pub new_from : (m : ℕ) (x : Priced) (rows : List Priced) → IsNew x.row rows → IsNew (row_after m x).row rows
-unfolding row_after
-new_from m x rows a = all_weaken (λ y. AreDifferent x.row y.row) (λ y. AreDifferent (row_after m x).row y.row) (λ y d. record { entry = d.entry; order = d.order }) rows a
+new_from m x rows a = all_weaken (λ y. AreDifferent x.row y.row) (λ y. AreDifferent (row_after m x).row y.row) (λ y d. different_kept m x y.row d) rows a
 
-pub across_after : (ts us : List Take) (xs ys : List Priced) → AllByRecursion (λ x. IsNew x.row ys) xs → AllByRecursion (λ x. IsNew x.row (rows_after us ys)) (rows_after ts xs)
-across_after ts us xs ys a =
-    rows_after_all (λ x. IsNew x.row (rows_after us ys)) (λ m x d. new_from m x (rows_after us ys) d) ts xs
-    (all_weaken (λ x. IsNew x.row ys) (λ x. IsNew x.row (rows_after us ys)) (λ x d. new_after x.row us ys d) xs a)
+pub differ_after : (takes : List Take) (rows : List Priced) → AllDiffer rows → AllDiffer (rows_after takes rows)
+differ_after takes rows a = pairwise_after AreDifferent different_back different_kept takes rows a
 
 module _ (n : ℕ) (orders : List Order) (taker : Priced) (others : List Priced) (held : IsHeld n orders taker.row) (live : AllByRecursion (λ x. IsLiveRow n orders x.row) others) (differ : AllDiffer others) (fresh : IsNew taker.row others) where
   -- no order trades more than it has left
@@ -110,7 +90,7 @@ module _ (n : ℕ) (orders : List Order) (taker : Priced) (others : List Priced)
         (elim (taker.row.order == k) as (λ b. (taker.row.order == k) ≡ b → order.cum + traded_in k (fills_of taker takes) ≤ order.quantity) [
           | true ↦ λ e.
               let at = same_number _ _ e in
-              let same : held.order ≡ order = some_order _ _ (sym held.is ∙ (ap (slice_get orders) at ∙ h)) in
+              let same : held.order ≡ order = some_is _ _ (sym held.is ∙ (ap (slice_get orders) at ∙ h)) in
               let cum : held.order.cum ≡ order.cum = ap (λ (o : Order). o.cum) same in
               let quantity : held.order.quantity ≡ order.quantity = ap (λ (o : Order). o.quantity) same in
               let sum = held.quantity in
@@ -188,7 +168,7 @@ meet_sound n orders taker sides h same fresh a =
       others_live = others_live_after n orders taker sides.others h a.others_live a.others_differ fresh;
       own_differ = differ_after mine sides.own a.own_differ;
       others_differ = differ_after takes sides.others a.others_differ;
-      differ = across_after mine takes sides.own sides.others a.differ;
+      differ = across_after AreDifferent different_back different_kept mine takes sides.own sides.others a.differ;
       sound = sound_after orders fills (walk_fits n orders taker sides.others h a.others_live a.others_differ fresh a.sound);
     }
 
@@ -253,7 +233,7 @@ turned n orders own others a =
       others_live = a.own_live;
       own_differ = a.others_differ;
       others_differ = a.own_differ;
-      differ = across_back own others a.differ;
+      differ = across_back AreDifferent different_back own others a.differ;
       sound = a.sound;
     }
 
@@ -288,8 +268,8 @@ retime_row event best x =
     let value : Option ℕ = value_under best x.row in
     elim (option_eq nat_eq value x.value) as (λ b. (cond b x (record { row = x.row; value = value; time = event })).row ≡ x.row) [ true ↦ refl | false ↦ refl ]
 
-keeps_retime : (event : ℕ) (best : Best) → KeepsNames (retime event best)
-keeps_retime event best x = let e = retime_row event best x in (ap (λ (r : Row). r.entry) e, ap (λ (r : Row). r.order) e)
+retime_apart : (event : ℕ) (best : Best) → Keeps AreDifferent (retime event best)
+retime_apart event best x y d = subst (λ (r : Row). AreDifferent r y) (sym (retime_row event best x)) d
 
 pub reprice_sound : (n event : ℕ) (best : Best) (orders : List Order) (own others : List Priced) → AreSound n orders own others → AreSound n orders (reprice event best own) (reprice event best others)
 unfolding reprice
@@ -299,8 +279,8 @@ reprice_sound n event best orders own others a =
     record {
       own_live = all_map (λ x. IsLiveRow n orders x.row) (λ x. IsLiveRow n orders x.row) f live own a.own_live;
       others_live = all_map (λ x. IsLiveRow n orders x.row) (λ x. IsLiveRow n orders x.row) f live others a.others_live;
-      own_differ = differ_map f (keeps_retime event best) own a.own_differ;
-      others_differ = differ_map f (keeps_retime event best) others a.others_differ;
-      differ = across_map f f (keeps_retime event best) (keeps_retime event best) own others a.differ;
+      own_differ = pairwise_map AreDifferent different_back f (retime_apart event best) own a.own_differ;
+      others_differ = pairwise_map AreDifferent different_back f (retime_apart event best) others a.others_differ;
+      differ = across_map AreDifferent different_back f f (retime_apart event best) (retime_apart event best) own others a.differ;
       sound = a.sound;
     }

@@ -19,6 +19,7 @@ use Rattle.eager_meaning.specs.Showing.{view_traded, view_at, view_closed}
 use Rattle.eager_meaning.specs.Trades.{orders_after, trade_notice, trade_notices}
 use Rattle.eager_meaning.specs.Entering.{leftover_notice, leftover_notices}
 use Rattle.eager_meaning.specs.Step.{reports_from}
+use Rattle.market_laws.specs.Equalities.{some_is}
 use Rattle.market_laws.specs.Placed.{side_at, opposite}
 use Rattle.market_laws.specs.Trading.{shares_if, shares_on, shares_traded, IsPricedWithin}
 use Rattle.market_laws.proofs.Siding.{sides_after}
@@ -75,14 +76,11 @@ traded_side order party =
     elim (nat_lt order.cum order.quantity) as (λ b. (cond b (view_at order party.price party.time) (view_closed order)).side ≡ order.side)
     [ true ↦ refl | false ↦ refl ]
 
-side_is : (x y : Side) → Some x ≡ Some y → x ≡ y
-side_is x y e = cc
-
 one_told : (fill : Fill) (party : Party) (side s : Side) (found : Option Order) → option_map (λ order. order.side) found ≡ Some side
     → shares_told s (option_to_list (option_map (λ order. record { member = order.member; kind = Traded (view_traded order party) fill.quantity fill.price }) found)) ≡ shares_if s side fill.quantity
 one_told fill party side s None h = cc
 one_told fill party side s (Some order) h =
-    let e : (view_traded order party).side ≡ side = traded_side order party ∙ side_is _ _ h in
+    let e : (view_traded order party).side ≡ side = traded_side order party ∙ some_is _ _ h in
     ap (λ (z : Side). 0 + shares_if s z fill.quantity) e ∙ zero-add _
 
 trade_told : (fill : Fill) (orders : List Order) (party : Party) (side s : Side) → side_at orders party.order ≡ Some side → shares_told s (trade_notice fill orders party) ≡ shares_if s side fill.quantity

@@ -1,5 +1,5 @@
 -- What each event keeps of names.
-use Rattle.std.proofs.Common.{◌≡◌, ℕ, zero, suc, ◌+◌, Bool, true, false, cond, List, [], ◌∷◌, ◌++◌, Option, Some, None, refl, ap, sym, ◌∙◌, subst}
+use Rattle.std.proofs.Common.{◌≡◌, ℕ, ◌+◌, Bool, true, false, cond, List, [], ◌∷◌, ◌++◌, Option, Some, None, refl, ap, sym, ◌∙◌, subst}
 use Rattle.std.specs.Prelude.{flat_map, fold, slice_get}
 use Rattle.std.specs.Option.{option_map_or}
 use Rattle.std.specs.List.{AllByRecursion}
@@ -32,7 +32,7 @@ use Rattle.eager_meaning.specs.Verdict.{Test, first_broken, verdict}
 use Rattle.eager_meaning.specs.Step.{Run, runs, step, view_now, on_status, outcome_of, reports_from}
 use Rattle.market_laws.specs.ListLaws.{all_found, all_flat}
 use Rattle.market_laws.specs.Names.{Name, name_of, AreNamed, OrdersAreNamed, used_by, names_used_by, UsedNamesAreTold}
-use Rattle.market_laws.proofs.Distinct.{AreDistinct, distinct_append, put_at, distinct_put, all_put, name_with, map_put, map_kept, all_get, one_place, IsUsed, unused_differs, used_differ, still_used, last_used, names, found_by_name}
+use Rattle.market_laws.proofs.Distinct.{AreDistinct, distinct_append, put_at, distinct_put, all_put, name_with, map_put, map_kept, all_get, one_place, IsUsed, unused_differs, used_differ, still_used, last_used, names, name_at, found_by_name}
 use Rattle.market_laws.proofs.Living.{live_found}
 use Rattle.market_laws.proofs.Naming.{live_member}
 use Rattle.market_laws.proofs.Replying.{view_id}
@@ -158,16 +158,11 @@ unfolding step
 all_keep tick run [] a = a
 all_keep tick run (event ∷ events) a = all_keep tick (step tick run event) events (outcome_keeps tick event.number event.command run.state a)
 
-got : (orders : List Order) (k : ℕ) (order : Order) → slice_get orders k ≡ Some order → slice_get (names orders) k ≡ Some (name_of order)
-got [] k order h = cc
-got (x ∷ xs) zero order h = let same : x ≡ order = cc in ap (λ (z : Order). Some (name_of z)) same
-got (x ∷ xs) (suc k) order h = got xs k order h
-
 named_by : (s : State) → HasNames s → AreNamed s
 named_by s a =
     record {
       once = one_place s.used a.once;
-      used = λ k order h. all_get (IsUsed s.used) (names s.orders) a.each k (name_of order) (got s.orders k order h);
+      used = λ k order h. all_get (IsUsed s.used) (names s.orders) a.each k (name_of order) (name_at s.orders k order h);
       found = found_by_name s.orders a.differ;
     }
 

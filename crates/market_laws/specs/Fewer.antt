@@ -18,7 +18,9 @@ use Rattle.eager_meaning.specs.Walk.{walk, may_fill, taken_from, least_fill, sta
 use Rattle.eager_meaning.specs.Matching.{takes_of, fills_of, row_after, shares_of, unfilled, rows_after}
 use Rattle.eager_meaning.specs.Recheck.{Sides, Matched, meet, crosses_any, sweep, recheck}
 use Rattle.eager_meaning.specs.Entering.{Entered, entered}
-use Rattle.market_laws.specs.Apart.{HasLeaves, EntriesDiffer, AreResting, AreApart, IsSpared, TakesDiffer, takes_differ, differ_in_priority, differ_append, absent_after, resting_after, apart_after, apart_back}
+use Rattle.market_laws.specs.Equalities.{same_number}
+use Rattle.market_laws.specs.Apart.{EnteredApart, EntriesDiffer, AreApart, TakesDiffer, IsSpared, HasLeaves, AreResting, apart_back, apart_kept, resting_after}
+use Rattle.market_laws.specs.Pairwise.{ToEach, to_each_after, across_after, across_back, pairwise_append, pairwise_in_priority, takes_pairwise}
 use Rattle.market_laws.specs.WalkLaws.{in_priority_all, takes_all}
 
 -- ---- rows that trades empty
@@ -84,15 +86,12 @@ kept_whole n s l e = let is : nat_lt 0 (n - s) ≡ true = grind (arith, nat_test
 kept_none : (n s : ℕ) → n ≤ s → one_if (nat_lt 0 (n - s)) ≡ 0
 kept_none n s l = let is : nat_lt 0 (n - s) ≡ false = grind (arith, nat_tests) in rw is refl
 
-same_entry : (a b : ℕ) → (a == b) ≡ true → a ≡ b
-same_entry a b e = grind (arith, nat_tests)
-
 -- one more take keeps no row that was not kept without it
 kept_less : (t : Take) (ts : List Take) (x : Priced) → IsSpared t.contra.row.entry ts → HasLeaves x → one_if (is_kept (t ∷ ts) x) ≤ one_if (is_kept ts x)
 kept_less t ts x d l =
     (elim (t.contra.row.entry == x.row.entry) as (λ b. (t.contra.row.entry == x.row.entry) ≡ b → one_if (is_kept (t ∷ ts) x) ≤ one_if (is_kept ts x)) [
       | true ↦ λ e.
-          let whole = kept_whole x.row.leaves (shares_of ts x) l (spared t.contra.row.entry ts d x (sym (same_entry _ _ e))) in
+          let whole = kept_whole x.row.leaves (shares_of ts x) l (spared t.contra.row.entry ts d x (sym (same_number _ _ e))) in
           let one = one_most (is_kept (t ∷ ts) x) in
           omega (arith, whole, one)
       | false ↦ λ e. rw (later_taken t ts x e) (omega arith)
@@ -223,7 +222,7 @@ few_of_walk taker rows a =
     let few = few_taken taker taker.row.leaves (in_priority rows) in
     let none = no_more_rows [] rows in
     let among = all_weaken (λ t. IsAmong rows t.contra × (crosses taker t.contra ≡ true)) (λ t. IsAmong rows t.contra) (λ t m. m.0) (takes_of taker rows) (takes_all (IsAmong rows) taker rows (each_among rows)) in
-    let gone = rows_emptied (takes_of taker rows) rows (takes_differ taker rows a.differ) among a.leaves in
+    let gone = rows_emptied (takes_of taker rows) rows (takes_pairwise EnteredApart apart_back taker rows a.differ) among a.leaves in
     let P : List Take → Type 0 = λ t. length t + length (rows_after t rows) + min 1 (taker.row.leaves - total_of t) ≤ length rows + 1 in
     (elim (stands taker.row takes) as (λ b. length (rows_after (cond b (some_taken takes) []) rows) + emptied_by (cond b (some_taken takes) []) ≤ length rows → P (cond b (some_taken takes) []))
     [ true ↦ λ g. omega (arith, few, g) | false ↦ λ g. omega (arith, none) ]) gone
@@ -292,8 +291,17 @@ pub record AreBothResting (rows facing : List Priced) : Type 0 where
   pub others : AreResting facing
   pub apart : AreApart rows facing
 
+-- what trades leave of both sides rests
+pub both_after : (ts us : List Take) (own others : List Priced) → AreBothResting own others → AreBothResting (rows_after ts own) (rows_after us others)
+both_after ts us own others a =
+    record {
+      own = resting_after ts own a.own.differ;
+      others = resting_after us others a.others.differ;
+      apart = across_after EnteredApart apart_back apart_kept ts us own others a.apart;
+    }
+
 pub both_back : (own others : List Priced) → AreBothResting own others → AreBothResting others own
-both_back own others a = record { own = a.others; others = a.own; apart = apart_back own others a.apart }
+both_back own others a = record { own = a.others; others = a.own; apart = across_back EnteredApart apart_back own others a.apart }
 
 -- so after each taker
 pub sweep_rests : (takers : List Priced) (sides : Sides) → AreBothResting sides.own sides.others → AreBothResting (sweep takers sides).own (sweep takers sides).others
@@ -302,11 +310,7 @@ sweep_rests [] sides a = a
 sweep_rests (taker ∷ takers) sides a =
     let takes : List Take = takes_of taker sides.others in
     let mine : List Take = record { contra = taker; shares = total_of takes } ∷ [] in
-    let more = sweep_rests takers (meet taker sides) (record {
-      own = resting_after mine sides.own a.own.differ;
-      others = resting_after takes sides.others a.others.differ;
-      apart = apart_after mine takes sides.own sides.others a.apart;
-    }) in
+    let more = sweep_rests takers (meet taker sides) (both_after mine takes sides.own sides.others a) in
     elim (crosses_any taker sides.others) as (λ b. AreBothResting (cond b (sweep takers (meet taker sides)) sides).own (cond b (sweep takers (meet taker sides)) sides).others)
     [ true ↦ more | false ↦ a ]
 
@@ -330,8 +334,8 @@ few_of_recheck buys sells a =
     let middle : Sides = record { own = half.others; others = half.own; fills = half.fills } in
     let after : Sides = sweep (in_priority half.others) middle in
     let rests = both_back half.own half.others (sweep_rests (in_priority buys) before a) in
-    let first = few_of_sweep (in_priority buys) before a.own a.others (takers_among buys) (differ_in_priority buys a.own.differ) in
-    let second = few_of_sweep (in_priority half.others) middle rests.own rests.others (takers_among half.others) (differ_in_priority half.others rests.own.differ) in
+    let first = few_of_sweep (in_priority buys) before a.own a.others (takers_among buys) (pairwise_in_priority EnteredApart apart_back buys a.own.differ) in
+    let second = few_of_sweep (in_priority half.others) middle rests.own rests.others (takers_among half.others) (pairwise_in_priority EnteredApart apart_back half.others rests.own.differ) in
     record {
       few = omega (arith, first, second);
       rest = both_back after.own after.others (sweep_rests (in_priority half.others) middle rests);
@@ -360,10 +364,10 @@ FewOfEntered =
 
 -- an order that is of another event than these rows
 apart_append : (x : Priced) (own others : List Priced) → AreApart own others → IsAbsent x.row.entry others → AreApart (own ++ x ∷ []) others
-apart_append x own others a d = all_append (λ y. IsAbsent y.row.entry others) own (x ∷ []) a (d, tt)
+apart_append x own others a d = all_append (λ y. ToEach EnteredApart y.row others) own (x ∷ []) a (d, tt)
 
 resting_append : (x : Priced) (rows : List Priced) → HasLeaves x → IsAbsent x.row.entry rows → AreResting rows → AreResting (rows ++ x ∷ [])
-resting_append x rows l d a = record { leaves = all_append HasLeaves rows (x ∷ []) a.leaves (l, tt); differ = differ_append x rows d a.differ }
+resting_append x rows l d a = record { leaves = all_append HasLeaves rows (x ∷ []) a.leaves (l, tt); differ = pairwise_append EnteredApart apart_back rows x a.differ d }
 
 own_with : (x : Priced) (own others : List Priced) → IsAbsent x.row.entry own → IsAbsent x.row.entry others → AreBothResting own others → AreBothResting (own ++ unfilled (x ∷ [])) others
 own_with x own others d e a =
@@ -385,12 +389,12 @@ few_of_entered taker immediate own others d e a =
     let kept : AreBothResting own (rows_after takes others) = record {
       own = a.own;
       others = resting_after takes others a.others.differ;
-      apart = all_weaken (λ x. IsAbsent x.row.entry others) (λ x. IsAbsent x.row.entry (rows_after takes others)) (λ x f. absent_after x.row.entry takes others f) own a.apart;
+      apart = all_weaken (λ x. ToEach EnteredApart x.row others) (λ x. ToEach EnteredApart x.row (rows_after takes others)) (λ x f. to_each_after EnteredApart apart_back apart_kept x.row takes others f) own a.apart;
     } in
     let P : List Priced → Type 0 = λ rows. (length (fills_of taker takes) + length rows + length (rows_after takes others) ≤ length own + length others + 1) × AreBothResting rows (rows_after takes others) in
     let is : P (cond immediate own (own ++ left)) =
     elim immediate as (λ b. P (cond b own (own ++ left))) [
       | true ↦ (omega (arith, few, each), kept)
-      | false ↦ (omega (arith, few, one, each, joined), own_with after own (rows_after takes others) d (absent_after taker.row.entry takes others e) kept)
+      | false ↦ (omega (arith, few, one, each, joined), own_with after own (rows_after takes others) d (to_each_after EnteredApart apart_back apart_kept taker.row takes others e) kept)
     ] in
     record { few = is.0; rest = is.1 }

@@ -1,4 +1,5 @@
 pub mod Apart
+pub mod Equalities
 pub mod Fewer
 pub mod Fitting
 pub mod Histories
@@ -6,6 +7,7 @@ pub mod Ids
 pub mod ListLaws
 pub mod Names
 pub mod Orders
+pub mod Pairwise
 pub mod Placed
 pub mod Replies
 pub mod Reports

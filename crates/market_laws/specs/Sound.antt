@@ -1,5 +1,5 @@
 -- Rows and orders of a book that agree with each other.
-use Rattle.std.specs.Prelude.{◌≡◌, ℕ, ◌+◌, ◌≤◌, nat_lt, List, [], ◌∷◌, length, slice_get, Some}
+use Rattle.std.specs.Prelude.{◌≡◌, ℕ, ◌+◌, ◌≤◌, nat_lt, List, length, slice_get, Some}
 use Rattle.std.specs.List.{AllByRecursion}
 use Rattle.venue_words.specs.declared.row.Row.{Row}
 use Rattle.venue_words.specs.declared.row.Priced.{Priced}
@@ -7,6 +7,7 @@ use Rattle.eager_meaning.specs.declared.order.Order.{Order}
 use Rattle.venue_words.specs.declared.command.Event.{Event}
 use Rattle.eager_meaning.specs.State.{State}
 use Rattle.eager_meaning.specs.Step.{IsNumbered, runs}
+use Rattle.market_laws.specs.Pairwise.{Pairwise}
 
 -- two rows entered at different events, and are of different orders
 pub record AreDifferent (x y : Row) : Type 0 where
@@ -19,8 +20,7 @@ IsNew row rows = AllByRecursion (λ y. AreDifferent row y.row) rows
 
 -- no two rows are of one event or of one order
 abbrev pub AllDiffer : List Priced → Type 0
-AllDiffer [] = Unit {0}
-AllDiffer (x ∷ xs) = IsNew x.row xs × AllDiffer xs
+AllDiffer rows = Pairwise AreDifferent rows
 
 -- a row agrees with its order: the shares that are left and those traded are the quantity
 pub record IsHeld (events : ℕ) (orders : List Order) (row : Row) : Type 0 where

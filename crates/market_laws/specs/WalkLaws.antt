@@ -10,7 +10,7 @@ use Rattle.eager_meaning.specs.Walk.{walk, taken_from, stands}
 use Rattle.eager_meaning.specs.Matching.{takes_of, row_after, shares_of, rows_after}
 use Rattle.market_laws.specs.ListLaws.{all_filter, all_map}
 
-placed_all : (P : Priced → Type 0) (x : Priced) (ys : List Priced) → P x → AllByRecursion P ys → AllByRecursion P (placed x ys)
+pub placed_all : (P : Priced → Type 0) (x : Priced) (ys : List Priced) → P x → AllByRecursion P ys → AllByRecursion P (placed x ys)
 placed_all P x [] p a = (p, tt)
 placed_all P x (y ∷ ys) p a =
     elim (goes_before x y) as (λ b. AllByRecursion P (cond b (x ∷ y ∷ ys) (y ∷ placed x ys)))

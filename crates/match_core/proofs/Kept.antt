@@ -1,5 +1,5 @@
 -- What trades leave as it was: sides, times, entries and the order of rows.
-use Rattle.std.proofs.Common.{◌≡◌, ℕ, ◌+◌, ◌<◌, ◌≤◌, nat_lt, Bool, true, false, cond, List, [], ◌∷◌, ◌++◌, map, refl, ap, sym, ◌∙◌, subst, arith}
+use Rattle.std.proofs.Common.{◌≡◌, ℕ, ◌<◌, ◌≤◌, nat_lt, true, false, cond, List, [], ◌∷◌, map}
 use Rattle.std.specs.List.{AllByRecursion}
 use Rattle.venue_words.specs.declared.price.Side.{Side}
 use Rattle.venue_words.specs.declared.price.Side.TheVariants.{Buy, Sell}
@@ -8,9 +8,7 @@ use Rattle.venue_words.specs.ListLaws.{all_weaken, all_both}
 use Rattle.venue_words.specs.Priority.{in_priority}
 use Rattle.venue_words.specs.Rows.{IsByEntry, IsAbsent}
 use Rattle.eager_meaning.specs.declared.trade.Take.{Take}
-use Rattle.eager_meaning.specs.declared.trade.Fill.{Fill}
-use Rattle.eager_meaning.specs.Matching.{row_after, rows_after, unfilled, shares_of, takes_of, fills_of}
-use Rattle.eager_meaning.specs.Walk.{total_of}
+use Rattle.eager_meaning.specs.Matching.{row_after, rows_after, unfilled, shares_of}
 use Rattle.eager_meaning.specs.Recheck.{Sides, meet, crosses_any, sweep, recheck}
 use Rattle.match_core.specs.Aside.{HasLeaves}
 use Rattle.match_core.specs.SidesView.{IsRowOf, AreRowsOf, AreBoth}

@@ -1,7 +1,6 @@
 -- How many keys the rows of both sides have.
-use Rattle.std.proofs.Common.{◌≡◌, ℕ, suc, ◌+◌, ◌^◌, ◌<◌, ◌≤◌, Bool, true, false, ◌||◌, cond, List, [], ◌∷◌, ◌++◌, length, refl, ap, sym, ◌∙◌, subst, arith}
+use Rattle.std.proofs.Common.{◌≡◌, ℕ, suc, ◌+◌, ◌^◌, ◌<◌, ◌≤◌, Bool, true, false, ◌||◌, cond, List, [], ◌∷◌, ◌++◌, length, refl, ap, arith}
 use Rattle.std.specs.List.{AllByRecursion, list_any}
-use Rattle.venue_words.specs.declared.price.Side.{Side}
 use Rattle.venue_words.specs.declared.price.Side.TheVariants.{Buy, Sell}
 use Rattle.venue_words.specs.declared.row.Key.{Key}
 use Rattle.venue_words.specs.declared.row.Priced.{Priced}

@@ -1,4 +1,5 @@
 pub mod AfterTrades
+pub mod Alone
 pub mod Changes
 pub mod Enters
 pub mod Fewer

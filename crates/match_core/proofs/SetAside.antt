@@ -1,14 +1,14 @@
 -- A taker goes through the first active rows of a side.
-use Rattle.std.proofs.Common.{◌≡◌, ◌≢◌, ◌⊎◌, ℕ, zero, suc, ◌+◌, ◌-◌, ◌<◌, ◌≤◌, nat_lt, Bool, true, false, ◌&&◌, cond, List, [], ◌∷◌, ◌++◌, map, length, Option, Some, None, refl, ap, sym, ◌∙◌, subst, arith, inl, inr, append_assoc, append-nil}
+use Rattle.std.proofs.Common.{◌≡◌, ℕ, suc, ◌-◌, ◌<◌, nat_lt, true, false, ◌&&◌, cond, List, [], ◌∷◌, ◌++◌, length, refl, ap, sym, ◌∙◌, subst, append_assoc, append-nil}
 use Rattle.venue_words.specs.declared.row.Priced.{Priced}
 use Rattle.venue_words.specs.Price.{crosses}
 use Rattle.venue_words.specs.Priority.{in_priority}
 use Rattle.eager_meaning.specs.Walk.{walk, taken_from}
 use Rattle.venue_words.specs.FirstRow.{IsFirst, NoneActive}
-use Rattle.venue_words.specs.Rows.{IsByEntry, IsAbsent, row_by_entry, insert_by_entry, without_entry}
+use Rattle.venue_words.specs.Rows.{IsByEntry, IsAbsent, insert_by_entry, without_entry}
 use Rattle.venue_words.specs.FirstRowLaws.{first_of_priority, none_in_priority}
 use Rattle.peg_groups.specs.ByEntry.{absent_without, insert-without}
-use Rattle.peg_groups.specs.Merge.{each_insert, each_inserted}
+use Rattle.peg_groups.specs.Merge.{each_inserted}
 use Rattle.peg_groups.specs.declared.side_book.Taken.{Taken}
 use Rattle.peg_groups.specs.Side.{taken_row}
 use Rattle.match_core.specs.Aside.{taken_rows, put_in, AreOut, PassesAll, Gathered, IsNext, NoNext}

@@ -3,7 +3,7 @@ use Rattle.std.proofs.Common.{◌≡◌, ◌⊎◌, ℕ, suc, ◌+◌, ◌^◌, 
 use Rattle.std.specs.Prelude.{find, ◌==◌, not, nat_eq, IfSome}
 use Rattle.std.specs.List.{AllByRecursion}
 use Rattle.std.specs.Option.{option_eq}
-use Rattle.std.proofs.lemmas.Bool.{eq-eqb, ne_eqb, eqb-true, lt-ltb, le-ltb}
+use Rattle.std.proofs.lemmas.Bool.{eq-eqb, ne_eqb, lt-ltb, le-ltb}
 use Rattle.venue_words.specs.declared.price.Best.{Best}
 use Rattle.venue_words.specs.declared.price.Side.{Side}
 use Rattle.venue_words.specs.declared.price.Side.TheVariants.{Buy, Sell}
@@ -12,7 +12,7 @@ use Rattle.venue_words.specs.declared.row.Priced.{Priced}
 use Rattle.venue_words.specs.ListLaws.{all_weaken, all_append, all_both}
 use Rattle.venue_words.specs.Peg.{value_under}
 use Rattle.venue_words.specs.Retime.{reprice, retime}
-use Rattle.venue_words.specs.Rows.{IsByEntry, IsAbsent, insert_by_entry, row_by_entry, without_entry}
+use Rattle.venue_words.specs.Rows.{IsByEntry, IsAbsent, row_by_entry}
 use Rattle.eager_meaning.specs.declared.trade.Take.{Take}
 use Rattle.eager_meaning.specs.Changing.{without, with_leaves}
 use Rattle.eager_meaning.specs.Matching.{row_after, rows_after, unfilled, takes_of}

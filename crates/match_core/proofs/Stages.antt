@@ -1,5 +1,5 @@
 -- One taker more has walked.
-use Rattle.std.proofs.Common.{◌≡◌, ℕ, zero, suc, ◌+◌, ◌-◌, ◌*◌, ◌<◌, ◌≤◌, nat_lt, Bool, true, false, cond, List, [], ◌∷◌, ◌++◌, map, filter, length, refl, ap, sym, ◌∙◌, subst, arith, append-nil, length-append}
+use Rattle.std.proofs.Common.{◌≡◌, ℕ, suc, ◌+◌, ◌-◌, ◌*◌, ◌<◌, ◌≤◌, nat_lt, Bool, true, false, cond, List, [], ◌∷◌, ◌++◌, map, length, refl, ap, sym, ◌∙◌, arith, append-nil, length-append}
 use Rattle.std.specs.List.{AllByRecursion}
 use Rattle.std.specs.Prelude.{vec_len}
 use Rattle.std.specs.declared.alloc.Global.{Global}
@@ -9,7 +9,7 @@ use Rattle.venue_words.specs.declared.row.Priced.{Priced}
 use Rattle.venue_words.specs.Priority.{in_priority}
 use Rattle.venue_words.specs.FirstRow.{IsFirst, NoneActive}
 use Rattle.venue_words.specs.FirstRowLaws.{none_in_priority}
-use Rattle.venue_words.specs.Rows.{IsByEntry, IsAbsent, insert_by_entry}
+use Rattle.venue_words.specs.Rows.{IsAbsent, insert_by_entry}
 use Rattle.eager_meaning.specs.declared.trade.Take.{Take}
 use Rattle.eager_meaning.specs.declared.trade.Fill.{Fill}
 use Rattle.eager_meaning.specs.Walk.{total_of}
@@ -26,7 +26,7 @@ use Rattle.match_core.specs.Sweeping.{Stage, IsStage, Turned, HasStageRoom, stag
 use Rattle.match_core.proofs.SetAside.{FirstOut, out_more, length_insert, rows_more}
 use Rattle.match_core.proofs.Changes.{all_found}
 use Rattle.match_core.proofs.Trades.{row_after_none, row_after_entry, fills_none}
-use Rattle.match_core.proofs.AfterTrades.{pf_through, rows_none}
+use Rattle.match_core.proofs.AfterTrades.{rows_none}
 use Rattle.match_core.proofs.Fewer.{length_one, after_leaves}
 use Rattle.match_core.proofs.Turns.{meet_is, sweep_on, sweep_out, sweep_none, filled_more, through}
 

@@ -1,20 +1,19 @@
 -- A row after a trade, and rows that come back.
-use Rattle.std.proofs.Common.{◌≡◌, ◌≢◌, ◌⊎◌, ℕ, zero, suc, ◌+◌, ◌-◌, ◌*◌, ◌<◌, ◌≤◌, nat_lt, Bool, true, false, ◌&&◌, ◌||◌, cond, ltb, eqb, List, [], ◌∷◌, ◌++◌, map, filter, length, reverse, Option, Some, None, refl, ap, sym, ◌∙◌, subst, arith, inl, inr, append_assoc, append-nil}
-use Rattle.std.proofs.lemmas.Bool.{lt-ltb, le-ltb, ne_eqb, eq-eqb}
+use Rattle.std.proofs.Common.{◌≡◌, ℕ, ◌-◌, ◌<◌, nat_lt, Bool, true, false, ◌||◌, cond, List, [], ◌∷◌, ◌++◌, filter, reverse, refl, ap, sym, ◌∙◌, arith, append_assoc, append-nil}
+use Rattle.std.proofs.lemmas.Bool.{lt-ltb, le-ltb}
 use Rattle.std.proofs.lemmas.List.{reverse-append}
 use Rattle.venue_words.specs.declared.row.Row.{Row}
 use Rattle.venue_words.specs.declared.row.Priced.{Priced}
 use Rattle.venue_words.specs.Price.{crosses}
 use Rattle.eager_meaning.specs.declared.trade.Take.{Take}
 use Rattle.eager_meaning.specs.declared.trade.Fill.{Fill}
-use Rattle.eager_meaning.specs.Walk.{walk, taken_from, total_of}
-use Rattle.eager_meaning.specs.Matching.{row_after, fills_of, fill_of, shares_of, rows_after, unfilled}
+use Rattle.eager_meaning.specs.Walk.{walk, taken_from}
+use Rattle.eager_meaning.specs.Matching.{row_after, fills_of, fill_of}
 use Rattle.peg_groups.specs.declared.side_book.Taken.{Taken}
-use Rattle.std.specs.List.{AllByRecursion}
-use Rattle.venue_words.specs.Rows.{IsByEntry, IsAbsent, insert_by_entry}
-use Rattle.peg_groups.specs.Merge.{insert_swap, each_insert, each_inserted, map-insert}
-use Rattle.peg_groups.specs.Side.{taken_row, standing_of}
-use Rattle.match_core.specs.Aside.{taken_rows, put_in, AreOut, PassesAll, finals, put_filled, put_filled_one}
+use Rattle.venue_words.specs.Rows.{IsAbsent, insert_by_entry}
+use Rattle.peg_groups.specs.Merge.{each_insert}
+use Rattle.peg_groups.specs.Side.{standing_of}
+use Rattle.match_core.specs.Aside.{AreOut, put_filled_one}
 
 or_false : (b : Bool) → (b || false) ≡ b
 or_false true = refl

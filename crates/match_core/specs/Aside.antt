@@ -1,5 +1,5 @@
 -- Rows that are out of their side while a taker goes through them, and how they come back.
-use Rattle.std.specs.Prelude.{◌≡◌, ℕ, ◌+◌, ◌-◌, ◌<◌, ◌≤◌, nat_lt, true, List, [], ◌∷◌, ◌++◌, map, length, if◌then◌else◌}
+use Rattle.std.specs.Prelude.{◌≡◌, ℕ, ◌-◌, ◌<◌, nat_lt, true, List, [], ◌∷◌, ◌++◌, map, if◌then◌else◌}
 use Rattle.venue_words.specs.declared.row.Priced.{Priced}
 use Rattle.venue_words.specs.Price.{crosses}
 use Rattle.venue_words.specs.Priority.{in_priority}

@@ -11,12 +11,12 @@ use Rattle.eager_meaning.specs.Entering.{Entered, entered}
 use Rattle.eager_meaning.specs.Recheck.{Matched, recheck}
 use Rattle.eager_meaning.specs.Showing.{row_of_order}
 
--- of the buys and the sells those of a side; and of the rows of a side and those of the other side the buys
+-- for a buy the first, for a sell the second: the own side of buys and sells, or the buys of own and other rows
 abbrev pub own_of : Side → List Priced → List Priced → List Priced
 own_of Buy x y = x
 own_of Sell x y = y
 
--- of the buys and the sells those of the other side; and of the rows of a side and those of the other side the sells
+-- for a buy the second, for a sell the first: the other side of buys and sells, or the sells of own and other rows
 abbrev pub others_of : Side → List Priced → List Priced → List Priced
 others_of Buy x y = y
 others_of Sell x y = x

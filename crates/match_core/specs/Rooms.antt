@@ -1,7 +1,6 @@
 -- Room that is made ahead for matching.
-use Rattle.std.specs.Prelude.{◌≡◌, ℕ, ◌+◌, ◌≤◌, List, [], length, vec_len}
+use Rattle.std.specs.Prelude.{◌≡◌, ℕ, ◌+◌, ◌≤◌, [], vec_len}
 use Rattle.std.specs.Vec.{vec_capacity}
-use Rattle.venue_words.specs.declared.row.Priced.{Priced}
 use Rattle.match_core.specs.declared.scratch.Scratch.{Scratch}
 
 -- nothing is set aside

@@ -87,12 +87,7 @@ fn replace<S: SideBook, L: Ledger>(
 }
 
 /// Gives a row of a side other leaves.
-pub fn lower_in<S: SideBook, L: Ledger>(
-    side: &mut S,
-    row: &Row,
-    leaves: u32,
-    steps: &mut Steps<L>,
-)
+pub fn lower_in<S: SideBook, L: Ledger>(side: &mut S, row: &Row, leaves: u32, steps: &mut Steps<L>)
     requires held { (x : Priced) × IsHeldAt row.now.key row.now.cap row.now.entry (S.state side.old).rows x }
     ensures left { (S.state side.new).rows ≡ map (with_leaves row.now.entry leaves) (S.state side.old).rows }
     ensures best { (S.state side.new).best ≡ (S.state side.old).best }

@@ -101,7 +101,8 @@ pub trait Engine {
         ensures sells { sells self.new ≡ others_of row.key.side
             (entered_rows (best self.old) row immediate (buys self.old) (sells self.old)).own
             (entered_rows (best self.old) row immediate (buys self.old) (sells self.old)).others }
-        ensures fills { fills self.new ≡ (entered_rows (best self.old) row immediate (buys self.old) (sells self.old)).fills }
+        ensures fills { fills self.new
+            ≡ (entered_rows (best self.old) row immediate (buys self.old) (sells self.old)).fills }
         ensures left { result ≡ nat_lt 0 (row.leaves - total_of (takes_of (priced_at (best self.old) row)
             (others_of row.key.side (buys self.old) (sells self.old)))) }
         ensures best { best self.new ≡ best self.old }
@@ -116,8 +117,8 @@ pub trait Engine {
     /// The price of a resting row in units of 0.005, or none while it is inactive, and its time.
     fn priced<L: Ledger>(&self, row: &Row, steps: &mut Steps<L>) -> (Option<u32>, u32)
         requires rests { Rests row.now (buys self.now ++ sells self.now) }
-        ensures shown { option_map (λ x. (price_shown x, x.time)) (row_of_order row.now.order (buys self.now ++ sells self.now))
-            ≡ Some result }
+        ensures shown { option_map (λ x. (price_shown x, x.time))
+            (row_of_order row.now.order (buys self.now ++ sells self.now)) ≡ Some result }
         ensures most { steps.new ≤ steps.old + 512 };
 
     /// Takes a resting row out. No room is lost.

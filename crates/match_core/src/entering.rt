@@ -73,7 +73,8 @@ fn put_left<S: SideBook, L: Ledger>(
     requires room { S.row_room own.old row.key }
     requires later { IsLaterThan (S.state own.old) row.entry }
     requires last { AllByRecursion (λ x. x.row.entry < row.entry) (S.state own.old).rows }
-    ensures own { (S.state own.new).rows ≡ (S.state own.old).rows ++ unfilled (priced_at (S.state own.old).best row ∷ []) }
+    ensures own { (S.state own.new).rows
+        ≡ (S.state own.old).rows ++ unfilled (priced_at (S.state own.old).best row ∷ []) }
     ensures best { (S.state own.new).best ≡ (S.state own.old).best }
     ensures event { (S.state own.new).event ≡ (S.state own.old).event }
     ensures width { S.width own.new ≡ S.width own.old }
@@ -186,7 +187,8 @@ pub fn enter_on<S: SideBook, L: Ledger>(
     ensures sells { (S.state sells.new).rows ≡ others_of row.key.side
         (entered_rows quote row immediate (S.state buys.old).rows (S.state sells.old).rows).own
         (entered_rows quote row immediate (S.state buys.old).rows (S.state sells.old).rows).others }
-    ensures fills { scratch.new.fills.items ≡ (entered_rows quote row immediate (S.state buys.old).rows (S.state sells.old).rows).fills }
+    ensures fills { scratch.new.fills.items
+        ≡ (entered_rows quote row immediate (S.state buys.old).rows (S.state sells.old).rows).fills }
     ensures left { result ≡ nat_lt 0 (row.leaves - total_of (takes_of (priced_at quote row)
         (others_of row.key.side (S.state buys.old).rows (S.state sells.old).rows))) }
     ensures few { length scratch.new.fills.items + (length (S.state buys.new).rows + length (S.state sells.new).rows)

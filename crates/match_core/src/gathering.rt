@@ -33,7 +33,8 @@ pub fn next_contra<S: SideBook, L: Ledger>(
     steps: &mut Steps<L>,
 ) -> Option<Taken>
     ensures by_entry { IsByEntry (S.state other.old).rows }
-    ensures next { IfSome result (λ taken. IsNext t.now (taken_row taken) (S.state other.old).rows (S.state other.new).rows) }
+    ensures next { IfSome result (λ taken.
+        IsNext t.now (taken_row taken) (S.state other.old).rows (S.state other.new).rows) }
     ensures best { (S.state other.new).best ≡ (S.state other.old).best }
     ensures event { (S.state other.new).event ≡ (S.state other.old).event }
     ensures none { IsNone result → NoNext t.now (S.state other.old).rows }
@@ -83,7 +84,8 @@ pub fn gather<S: SideBook, L: Ledger>(
     requires leaves { 0 < t.now.row.leaves }
     requires empty { aside.old.items ≡ [] }
     requires room { vec_len aside.old + length (S.state other.old).rows ≤ vec_capacity aside.old }
-    ensures gathered { Gathered t.now (S.state other.old).rows (S.state other.new).rows (taken_rows aside.new.items) result }
+    ensures gathered { Gathered t.now (S.state other.old).rows (S.state other.new).rows
+        (taken_rows aside.new.items) result }
     ensures by_entry { IsByEntry (S.state other.new).rows }
     ensures walked { walk t.now t.now.row.leaves (in_priority (S.state other.old).rows)
         ≡ walk t.now t.now.row.leaves (taken_rows aside.new.items) }

@@ -83,8 +83,10 @@ pub fn requote_both<S: SideBook, L: Ledger>(
     requires sells_full { AllByRecursion HasLeaves (S.state sells.old).rows }
     requires clear { IsClear scratch.old }
     requires room { HasRoom (length (S.state buys.old).rows + length (S.state sells.old).rows) scratch.old }
-    ensures buys { (S.state buys.new).rows ≡ (requoted_rows event quote (S.state buys.old).rows (S.state sells.old).rows).buys }
-    ensures sells { (S.state sells.new).rows ≡ (requoted_rows event quote (S.state buys.old).rows (S.state sells.old).rows).sells }
+    ensures buys { (S.state buys.new).rows
+        ≡ (requoted_rows event quote (S.state buys.old).rows (S.state sells.old).rows).buys }
+    ensures sells { (S.state sells.new).rows
+        ≡ (requoted_rows event quote (S.state buys.old).rows (S.state sells.old).rows).sells }
     ensures fills { scratch.new.fills.items ≡ scratch.old.fills.items
         ++ (requoted_rows event quote (S.state buys.old).rows (S.state sells.old).rows).fills }
     ensures few { length (requoted_rows event quote (S.state buys.old).rows (S.state sells.old).rows).fills

@@ -10,9 +10,9 @@ ghost use Rattle.match_core.specs.Aside.{HasLeaves, IsAlone};
 ghost use Rattle.match_core.specs.Rooms.{IsClear, HasRoom, IsAsRoomy};
 
 use crate::gathering::row_of;
+use crate::settling::lower;
 use crate::walking::walk_in;
 use eager_meaning::Fill;
-use limit_tree::fill;
 use peg_groups::{SideBook, Taken};
 use std::alloc::Global;
 use std::sync::ledger::Ledger;
@@ -61,18 +61,6 @@ pub fn reserve(scratch: &mut Scratch, rows: usize) -> Result<(), NoMemory>
     Ok(())
 }
 
-/// Shares of a row that is out of its side are traded.
-fn lower_taker(taker: &mut Taken, shares: u32)
-    requires alone { IsAlone taker.old }
-    requires within { shares ≤ taker.old.node.value.row.leaves }
-    ensures row { taken_row taker.new ≡ row_after shares (taken_row taker.old) }
-    ensures alone { IsAlone taker.new }
-{
-    if 0 < shares {
-        fill(&mut taker.node, shares);
-    }
-}
-
 /// A taker, which isn't in its side, walks through the active rows of the other side by priority, while prices cross
 /// and shares are left of it. Its trades stand behind those that were there; a contra that is passed over, or that
 /// has shares left, keeps its value, its time and its place. A walk that doesn't meet the taker's minimum leaves
@@ -90,8 +78,10 @@ pub fn walk<S: SideBook, L: Ledger>(
     requires room { HasRoom (length (S.state other.old).rows) scratch.old }
 
     // The taker, the other side and the trades are those of the walk.
-    ensures taker { taken_row taker.new ≡ row_after (total_of (takes_of (taken_row taker.old) (S.state other.old).rows)) (taken_row taker.old) }
-    ensures put { (S.state other.new).rows ≡ rows_after (takes_of (taken_row taker.old) (S.state other.old).rows) (S.state other.old).rows }
+    ensures taker { taken_row taker.new
+        ≡ row_after (total_of (takes_of (taken_row taker.old) (S.state other.old).rows)) (taken_row taker.old) }
+    ensures put { (S.state other.new).rows
+        ≡ rows_after (takes_of (taken_row taker.old) (S.state other.old).rows) (S.state other.old).rows }
     ensures filled { scratch.new.fills.items ≡ scratch.old.fills.items
         ++ fills_of (taken_row taker.old) (takes_of (taken_row taker.old) (S.state other.old).rows) }
 
@@ -110,5 +100,5 @@ pub fn walk<S: SideBook, L: Ledger>(
 {
     let t = row_of(taker);
     let walked = walk_in(&t, other, &mut scratch.aside, &mut scratch.fills, steps);
-    lower_taker(taker, walked.shares);
+    lower(taker, walked.shares);
 }

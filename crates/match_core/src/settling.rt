@@ -40,6 +40,18 @@ pub fn party_of(x: &Priced) -> Party
     }
 }
 
+/// Shares of a row that is out of its side are traded.
+pub fn lower(taken: &mut Taken, shares: u32)
+    requires alone { IsAlone taken.old }
+    requires within { shares ≤ taken.old.node.value.row.leaves }
+    ensures row { taken_row taken.new ≡ row_after shares (taken_row taken.old) }
+    ensures alone { IsAlone taken.new }
+{
+    if 0 < shares {
+        fill(&mut taken.node, shares);
+    }
+}
+
 /// The row after it traded some shares.
 pub fn trade(mut taken: Taken, shares: u32) -> Taken
     requires alone { IsAlone taken }
@@ -47,9 +59,7 @@ pub fn trade(mut taken: Taken, shares: u32) -> Taken
     ensures row { taken_row result ≡ row_after shares (taken_row taken) }
     ensures alone { IsAlone result }
 {
-    if 0 < shares {
-        fill(&mut taken.node, shares);
-    }
+    lower(&mut taken, shares);
     taken
 }
 
@@ -100,7 +110,8 @@ pub fn give_back<S: SideBook, L: Ledger>(
 )
     requires out { AreOut (taken_rows (reverse aside.old.items)) (S.state other.old).rows }
     requires alone { AllByRecursion IsAlone (reverse aside.old.items) }
-    requires out_fit { AllByRecursion (λ taken. S.fits other.old (standing_of (taken_row taken))) (reverse aside.old.items) }
+    requires out_fit { AllByRecursion (λ taken. S.fits other.old (standing_of (taken_row taken)))
+        (reverse aside.old.items) }
     ensures put { (S.state other.new).rows ≡ put_filled (taken_rows (reverse aside.old.items)) (S.state other.old).rows }
     ensures empty { aside.new.items ≡ [] }
     ensures best { (S.state other.new).best ≡ (S.state other.old).best }
@@ -128,7 +139,8 @@ pub fn settle<S: SideBook, L: Ledger>(
     requires out { AreOut (taken_rows (reverse aside.old.items)) (S.state other.old).rows }
     requires passes { (rest : ℕ) × PassesAll t.now t.now.row.leaves (taken_rows (reverse aside.old.items)) rest }
     requires alone { AllByRecursion IsAlone (reverse aside.old.items) }
-    requires out_fit { AllByRecursion (λ taken. S.fits other.old (standing_of (taken_row taken))) (reverse aside.old.items) }
+    requires out_fit { AllByRecursion (λ taken. S.fits other.old (standing_of (taken_row taken)))
+        (reverse aside.old.items) }
     requires room { vec_len fills.old + length (reverse aside.old.items) ≤ vec_capacity fills.old }
     ensures put { (S.state other.new).rows
         ≡ put_filled (finals t.now t.now.row.leaves (taken_rows (reverse aside.old.items))) (S.state other.old).rows }

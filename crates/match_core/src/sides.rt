@@ -35,9 +35,18 @@ impl<S: SideBook + Drop> Model for Sides<S> {
 
     ghost Value = { SidesView S };
 
-    ghost view = { λ s. record { buys = s.buys; sells = s.sells; scratch = s.scratch; spare = s.spare; best = s.best; latest = s.latest } };
+    ghost view = { λ s.
+        record {
+          buys = s.buys;
+          sells = s.sells;
+          scratch = s.scratch;
+          spare = s.spare;
+          best = s.best;
+          latest = s.latest;
+        } };
 
-    ghost invariant = { λ s. AreSides s.best s.latest (S.state s.buys) (S.state s.sells) × IsClear s.scratch × (s.latest < 2 ^ 32) };
+    ghost invariant = { λ s.
+        AreSides s.best s.latest (S.state s.buys) (S.state s.sells) × IsClear s.scratch × (s.latest < 2 ^ 32) };
 }
 
 impl<S: SideBook + Drop> Sides<S> {
@@ -86,7 +95,10 @@ impl<S: NarrowSide + Drop> Engine for Sides<S> {
 
     ghost width = { λ s. S.width s.buys + S.width s.sells };
 
-    ghost ready = { λ s key. IsReady (length (S.state s.buys).rows + length (S.state s.sells).rows) s.scratch × (S.move_room s.buys × S.move_room s.sells) × IfSome key (λ k. IsSome s.spare × OnSide k.side (S.row_room s.buys k) (S.row_room s.sells k)) };
+    ghost ready = { λ s key.
+        IsReady (length (S.state s.buys).rows + length (S.state s.sells).rows) s.scratch
+        × (S.move_room s.buys × S.move_room s.sells)
+        × IfSome key (λ k. IsSome s.spare × OnSide k.side (S.row_room s.buys k) (S.row_room s.sells k)) };
 
     fn reserve(&mut self, key: Option<Key>) -> Result<(), NoMemory> {
         self.scratch.fills.clear();

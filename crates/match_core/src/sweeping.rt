@@ -54,12 +54,15 @@ fn next_taker<S: SideBook, L: Ledger>(
 
     // To put a taker back is counted with its turn.
     ensures most { result ≡ true → steps.new + 512 * vec_len scratch.new.tried
-        + 1536 * (S.width own.old + S.width other.old + 2) * rest_of_work (stage_of (S.state own.new).rows (S.state other.new).rows scratch.new)
+        + 1536 * (S.width own.old + S.width other.old + 2) * rest_of_work
+        (stage_of (S.state own.new).rows (S.state other.new).rows scratch.new)
         ≤ steps.old + 512 * vec_len scratch.old.tried
-        + 1536 * (S.width own.old + S.width other.old + 2) * rest_of_work (stage_of (S.state own.old).rows (S.state other.old).rows scratch.old) }
+        + 1536 * (S.width own.old + S.width other.old + 2) * rest_of_work
+        (stage_of (S.state own.old).rows (S.state other.old).rows scratch.old) }
     ensures most_done { result ≡ false → steps.new + 512 * vec_len scratch.new.tried
         ≤ steps.old + 512 * vec_len scratch.old.tried
-        + 1536 * (S.width own.old + S.width other.old + 2) * rest_of_work (stage_of (S.state own.old).rows (S.state other.old).rows scratch.old)
+        + 1536 * (S.width own.old + S.width other.old + 2) * rest_of_work
+        (stage_of (S.state own.old).rows (S.state other.old).rows scratch.old)
         + 1024 * (S.width own.old + 1) }
 {
     match own.take_best(steps) {
@@ -86,7 +89,8 @@ pub fn sweep<S: SideBook, L: Ledger>(
     requires clear { IsClear scratch.old }
     requires room { HasRoom (length (S.state own.old).rows + length (S.state other.old).rows) scratch.old }
     ensures swept { sides_of (S.state own.new).rows (S.state other.new).rows scratch.new
-        ≡ sweep (in_priority (S.state own.old).rows) (sides_of (S.state own.old).rows (S.state other.old).rows scratch.old) }
+        ≡ sweep (in_priority (S.state own.old).rows)
+        (sides_of (S.state own.old).rows (S.state other.old).rows scratch.old) }
     ensures few { length scratch.new.fills.items + (length (S.state own.new).rows + length (S.state other.new).rows)
         ≤ length scratch.old.fills.items + (length (S.state own.old).rows + length (S.state other.old).rows) }
     ensures more { length scratch.old.fills.items ≤ length scratch.new.fills.items }

@@ -2,3 +2,4 @@
 mod acts;
 mod books;
 mod random;
+mod rows;

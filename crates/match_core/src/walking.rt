@@ -60,7 +60,8 @@ pub fn walk_in<S: SideBook, L: Ledger>(
     requires empty { aside.old.items ≡ [] }
     requires room { length (S.state other.old).rows ≤ vec_capacity aside.old }
     requires fills_room { vec_len fills.old + length (S.state other.old).rows ≤ vec_capacity fills.old }
-    ensures put { (S.state other.new).rows ≡ rows_after (takes_of t.now (S.state other.old).rows) (S.state other.old).rows }
+    ensures put { (S.state other.new).rows
+        ≡ rows_after (takes_of t.now (S.state other.old).rows) (S.state other.old).rows }
     ensures filled { fills.new.items ≡ fills.old.items ++ fills_of t.now (takes_of t.now (S.state other.old).rows) }
     ensures total { result.shares ≡ total_of (takes_of t.now (S.state other.old).rows) }
     ensures within { result.shares ≤ t.now.row.leaves }
@@ -68,7 +69,8 @@ pub fn walk_in<S: SideBook, L: Ledger>(
     ensures idle { result.crossed ≡ false → takes_of t.now (S.state other.old).rows ≡ [] }
 
     // Each trade empties a contra, or the taker.
-    ensures few { length fills.new.items + (length (S.state other.new).rows + one_if_left (t.now.row.leaves - result.shares))
+    ensures few { length fills.new.items
+        + (length (S.state other.new).rows + one_if_left (t.now.row.leaves - result.shares))
         ≤ length fills.old.items + (length (S.state other.old).rows + 1) }
 
     // What stays.

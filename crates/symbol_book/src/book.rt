@@ -29,10 +29,12 @@ pub struct BookOver<E: Engine + Drop> {
     markets: Markets,
     engine: E,
     orders: Vec<Order>,
+    /// For each order the row with which it entered last, or none where it was canceled or may not rest.
     entered: Vec<Option<Row>>,
     ids: UsedIds,
     log: ReportLog,
     journal: Vec<Event>,
+    /// The key of the row for which there is room, where there is room for an event.
     ready: Option<Option<Key>>,
 }
 
@@ -167,8 +169,10 @@ impl<E: Engine + Drop> BookOver<E> {
     /// Whether it takes a command: prices of quotes are from 0.01 to 19,999.99, ids have at most 64 bytes, and a quote is of a
     /// market that is there.
     pub fn takes(&self, command: &Command) -> bool
-        ensures { result ≡ takes_command self.now.markets command.now }
+        ensures markets { result ≡ takes_command self.now.markets command.now }
+        ensures setting { result ≡ takes_command (markets_in (setting_of self.now.markets self.now.tick)) command.now }
     {
+        self.parts_of_setting();
         takes_command(self.markets.len(), command)
     }
 

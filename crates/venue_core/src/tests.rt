@@ -63,7 +63,11 @@ fn command(alloc: Global, feed: u32, number: u32) -> Result<Command, AllocError>
     if number % 9 < 3 {
         return Ok(quote(1000 + number % 7, 1003 + number % 5));
     }
-    let id = [feed as u8, (number / 256) as u8, (number % 256) as u8];
+    let id = [
+        (feed % 256) as u8,
+        (number / 256 % 256) as u8,
+        (number % 256) as u8,
+    ];
     Ok(Command::New {
         member: feed % 4,
         id: Bytes::copy_of(alloc, &id)?,

@@ -1,11 +1,15 @@
 //! What happens in the books of the tests.
-ghost use Rattle.std.specs.Prelude.{◌≡◌, ◌<◌, ◌≤◌, ◌^◌, length, OnOk, [], Some, None};
+ghost use Rattle.std.specs.Prelude.{◌≡◌, ◌<◌, ◌≤◌, ◌^◌, length, OnOk};
 ghost use Rattle.venue_words.specs.Conditions.{IsRow};
+ghost use Rattle.venue_words.specs.declared.price.Side.TheVariants.{Buy};
 
 use crate::Engine;
+use eager_meaning::Fill;
 use std::alloc::Global;
 use std::sync::ledger::Ledger;
-use venue_words::{Best, Key, Method, NoMemory, PRICE_END, Reference, Rounding, Row, Side, Steps, value};
+use venue_words::{
+    Best, Key, Method, NoMemory, PRICE_END, Reference, Rounding, Row, Side, Steps, value,
+};
 
 /// An order of a test.
 #[derive(Clone, Copy, Debug)]
@@ -36,7 +40,9 @@ pub struct Trade {
     pub price: u32,
 }
 
-pub fn buy(quantity: u32) -> Order {
+pub fn buy(quantity: u32) -> Order
+    ensures { result.side ≡ Buy }
+{
     Order {
         side: Side::Buy,
         quantity,
@@ -59,6 +65,7 @@ pub fn row_of(order: Order, number: u32, event: u32) -> Row
     ensures entry { result.entry ≡ event }
     ensures order { result.order ≡ number }
     ensures leaves { 0 < result.leaves }
+    ensures side { result.key.side ≡ order.side }
 {
     let (reference, cap) = match order.limit {
         None => (Reference::Mid, PRICE_END),
@@ -118,6 +125,45 @@ fn perform<E: Engine, L: Ledger>(
     Ok(true)
 }
 
+/// Adds the trades of an event.
+fn push_trades(trades: &mut Vec<Trade>, event: u32, fills: &[Fill]) -> Result<(), NoMemory> {
+    for fill in fills {
+        trades.push(Trade {
+            event,
+            taker: fill.taker.order,
+            contra: fill.contra.order,
+            quantity: fill.quantity,
+            price: fill.price,
+        })?;
+    }
+    Ok(())
+}
+
+/// Does what happens at an event, and adds its trades.
+fn turn<E: Engine, L: Ledger>(
+    engine: &mut E,
+    event: u32,
+    number: u32,
+    act: Act,
+    trades: &mut Vec<Trade>,
+    steps: &mut Steps<L>,
+) -> Result<(), NoMemory>
+    requires later { E.latest engine.old < event }
+    ensures later { OnOk result (E.latest engine.new ≤ event) }
+{
+    if perform(engine, event, number, act, steps)? {
+        return push_trades(trades, event, engine.fills());
+    }
+    Ok(())
+}
+
+fn next_number(number: u32, act: Act) -> u32 {
+    match act {
+        Act::New(_) => number.saturating_add(1),
+        Act::Quote(..) => number,
+    }
+}
+
 /// The trades of the events from 1 on.
 pub fn trades_of<E: Engine, L: Ledger>(
     engine: &mut E,
@@ -133,20 +179,8 @@ pub fn trades_of<E: Engine, L: Ledger>(
     let mut number = 0u32;
     for act in acts {
         event += 1;
-        if perform(engine, event, number, *act, steps)? {
-            for fill in engine.fills() {
-                trades.push(Trade {
-                    event,
-                    taker: fill.taker.order,
-                    contra: fill.contra.order,
-                    quantity: fill.quantity,
-                    price: fill.price,
-                })?;
-            }
-        }
-        if let Act::New(_) = act {
-            number = number.saturating_add(1);
-        }
+        turn(engine, event, number, *act, &mut trades, steps)?;
+        number = next_number(number, *act);
     }
     Ok(trades)
 }

@@ -83,11 +83,7 @@ fn minimums<L: Ledger>(
 
 /// One walk, without a second choice of contras. In the recheck of a new quote a row that was passed over takes
 /// its turn, also behind one that crosses and trades nothing.
-fn walks<L: Ledger>(
-    rt: &impl Abort,
-    alloc: Global,
-    steps: &mut Steps<L>,
-) -> Result<(), NoMemory> {
+fn walks<L: Ledger>(rt: &impl Abort, alloc: Global, steps: &mut Steps<L>) -> Result<(), NoMemory> {
     let acts = [
         Act::Quote(1000, 1001),
         Act::New(sell(50)),

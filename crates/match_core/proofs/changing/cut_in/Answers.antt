@@ -1,4 +1,3 @@
-use Rattle.std.proofs.Common.{◌≡◌}
 use Rattle.match_core.proofs.Changes.{cut_out}
 use Rattle.match_core.proofs.changing.cut_in.Goals as goal
 

@@ -1,4 +1,3 @@
-use Rattle.std.proofs.Common.{◌≡◌}
 use Rattle.match_core.proofs.Changes.{held_is_there}
 use Rattle.match_core.proofs.changing.price_in.Goals as goal
 

@@ -1,4 +1,4 @@
-use Rattle.std.proofs.Common.{◌≡◌, refl}
+use Rattle.std.proofs.Common.{refl}
 use Rattle.match_core.proofs.Changes.{held_is_there, lower_out, absent_out}
 use Rattle.match_core.proofs.changing.replace.Goals as goal
 

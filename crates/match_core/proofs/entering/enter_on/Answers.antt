@@ -1,4 +1,3 @@
-use Rattle.std.proofs.Common.{◌≡◌}
 use Rattle.match_core.proofs.Enters.{sides_buy, sides_sell}
 use Rattle.match_core.proofs.entering.enter_on.Goals as goal
 

@@ -1,4 +1,4 @@
-use Rattle.std.proofs.Common.{◌≡◌, ◌+◌, ◌≤◌, length, sym, ap, ◌∙◌, List}
+use Rattle.std.proofs.Common.{◌≡◌, length, ap, ◌∙◌}
 use Rattle.venue_words.specs.declared.price.Best.{Best}
 use Rattle.match_core.specs.BothSides.{priced_at}
 use Rattle.match_core.proofs.Enters.{own_with, own_entered, others_entered, fills_entered, few_entered}

@@ -1,11 +1,9 @@
-use Rattle.std.proofs.Common.{◌≡◌, ◌<◌, ◌≤◌, ◌+◌, ◌*◌, ℕ, suc, refl, sym, ◌∙◌, ap, List, length, arith, ◌++◌, ◌∷◌, [], subst, inl, inr}
+use Rattle.std.proofs.Common.{◌≡◌, ◌≤◌, ◌+◌, ◌*◌, ℕ, suc, refl, sym, ◌∙◌, ap, List, length, arith, inl, inr}
 use Rattle.std.proofs.Math.Nat.{mul-suc}
 use Rattle.venue_words.specs.declared.row.Priced.{Priced}
-use Rattle.peg_groups.specs.declared.side_book.Taken.{Taken}
 use Rattle.venue_words.specs.Rows.{insert_by_entry}
 use Rattle.peg_groups.specs.Side.{SideState, standing_of, taken_row}
-use Rattle.match_core.specs.Aside.{taken_rows, IsAlone, Gathered}
-use Rattle.std.specs.List.{AllByRecursion}
+use Rattle.match_core.specs.Aside.{taken_rows, IsAlone}
 use Rattle.match_core.proofs.SetAside.{gathered_none, gathered_more, walked, walked_done, length_insert, taken_more, taken_map, rows_more, length_more}
 use Rattle.match_core.proofs.gathering.gather.Goals as goal
 

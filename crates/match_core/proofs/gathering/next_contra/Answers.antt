@@ -1,5 +1,4 @@
-use Rattle.std.proofs.Common.{◌≡◌, refl, sym, ◌∙◌, ap, List, true, false}
-use Rattle.venue_words.specs.declared.row.Priced.{Priced}
+use Rattle.std.proofs.Common.{◌≡◌, refl, sym, ◌∙◌, ap, true, false}
 use Rattle.venue_words.specs.Price.{crosses}
 use Rattle.peg_groups.specs.Side.{SideState, taken_row}
 use Rattle.peg_groups.specs.ByEntry.{absent_without, with-without}

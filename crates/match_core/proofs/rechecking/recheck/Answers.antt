@@ -1,4 +1,3 @@
-use Rattle.std.proofs.Common.{◌≡◌, ◌+◌, ◌*◌, ◌≤◌, ◌++◌, List, length, ap, ◌∙◌, arith, length-append}
 use Rattle.venue_words.specs.Priority.{in_priority}
 use Rattle.eager_meaning.specs.Recheck.{recheck}
 use Rattle.eager_meaning.specs.Work.{examined_in_sweep, examined_in_recheck}

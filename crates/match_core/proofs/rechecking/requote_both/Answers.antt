@@ -1,4 +1,3 @@
-use Rattle.std.proofs.Common.{◌≡◌, ◌+◌, ◌≤◌, length}
 use Rattle.match_core.proofs.SideRows.{full_repriced, length_repriced}
 use Rattle.match_core.proofs.rechecking.requote_both.Goals as goal
 

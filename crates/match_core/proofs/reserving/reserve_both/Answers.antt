@@ -1,4 +1,4 @@
-use Rattle.std.proofs.Common.{◌≡◌, ◌∙◌}
+use Rattle.std.proofs.Common.{◌∙◌}
 use Rattle.match_core.proofs.reserving.reserve_both.Goals as goal
 
 pub reserve-requires-in-Buy : goal.reserve-requires-in-Buy

@@ -1,6 +1,4 @@
-use Rattle.std.proofs.Common.{◌≡◌, ◌≤◌, ◌+◌, ◌*◌, ◌∷◌, refl, sym, ◌∙◌, ap, List, length, reverse, arith}
-use Rattle.venue_words.specs.declared.row.Priced.{Priced}
-use Rattle.peg_groups.specs.declared.side_book.Taken.{Taken}
+use Rattle.std.proofs.Common.{refl, ◌∙◌, ap, length, reverse, arith}
 use Rattle.peg_groups.specs.Side.{standing_of, taken_row}
 use Rattle.match_core.specs.Aside.{taken_rows, put_filled}
 use Rattle.match_core.proofs.SetAside.{taken_map}

@@ -1,4 +1,4 @@
-use Rattle.std.proofs.Common.{◌≡◌, ◌++◌, List, ap, ◌∙◌, sym, arith, append-nil, nat_lt, refl}
+use Rattle.std.proofs.Common.{sym, arith, append-nil, refl}
 use Rattle.std.proofs.lemmas.Bool.{lt-ltb, le-ltb}
 use Rattle.peg_groups.specs.Side.{taken_row}
 use Rattle.match_core.proofs.Trades.{fills_none, fills_one}

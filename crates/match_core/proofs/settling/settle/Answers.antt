@@ -1,7 +1,6 @@
-use Rattle.std.proofs.Common.{◌≡◌, ◌≤◌, ◌+◌, ◌*◌, ◌++◌, ◌∷◌, [], refl, sym, ◌∙◌, ap, List, length, reverse, arith, rules, subst, ℕ, ◌-◌}
+use Rattle.std.proofs.Common.{◌≡◌, [], sym, ◌∙◌, ap, length, reverse, arith, rules, subst, ℕ, ◌-◌}
 use Rattle.venue_words.specs.declared.row.Priced.{Priced}
 use Rattle.eager_meaning.specs.Matching.{row_after}
-use Rattle.peg_groups.specs.declared.side_book.Taken.{Taken}
 use Rattle.peg_groups.specs.Side.{standing_of, Standing, taken_row}
 use Rattle.match_core.specs.Aside.{taken_rows, put_filled, put_filled_one, finals}
 use Rattle.match_core.proofs.SetAside.{taken_map}

@@ -1,4 +1,4 @@
-use Rattle.std.proofs.Common.{◌≡◌, ◌+◌, ◌-◌, ◌*◌, ◌<◌, ◌≤◌, ◌∷◌, ◌++◌, [], ℕ, Bool, true, false, List, length, vec_len, refl, sym, ap, ◌∙◌, subst, arith}
+use Rattle.std.proofs.Common.{◌≡◌, ◌+◌, ◌*◌, ◌≤◌, vec_len, refl, sym, ap, ◌∙◌, subst, arith}
 use Rattle.venue_words.specs.declared.row.Priced.{Priced}
 use Rattle.venue_words.specs.ListLaws.{all_weaken}
 use Rattle.eager_meaning.specs.Matching.{takes_of}
@@ -32,8 +32,8 @@ module _ (g : Over) (c : goal.After-push_reserved g) where
 
   walks : Walks (taken_row c.in-Some.taken) before after
   walks = walks_by (taken_row c.in-Some.taken) c.row_of-t.result before c.args.scratch.now.tried.items c.push_reserved.new.self.items c.trade.result c.walk_in-walked.result.shares (g.S.SideBook.state c.take_best.new.self).rows (g.S.SideBook.state c.walk_in-walked.new.other).rows c.walk_in-walked.new.fills.items
-    (first_out (taken_row c.in-Some.taken) (g.S.SideBook.state c.args.own.now).rows (g.S.SideBook.state c.take_best.new.self).rows c.in-Some.ensures.by_entry c.in-Some.ensures.best (ap (λ (s : SideState). s.rows) c.in-Some.ensures.state))
-    refl c.row_of-t.ensures c.push_reserved.ensures.items c.trade.ensures.row c.walk_in-walked.ensures.total c.walk_in-walked.ensures.put c.walk_in-walked.ensures.filled c.walk_in-walked.ensures.few
+      (first_out (taken_row c.in-Some.taken) (g.S.SideBook.state c.args.own.now).rows (g.S.SideBook.state c.take_best.new.self).rows c.in-Some.ensures.by_entry c.in-Some.ensures.best (ap (λ (s : SideState). s.rows) c.in-Some.ensures.state))
+      refl c.row_of-t.ensures c.push_reserved.ensures.items c.trade.ensures.row c.walk_in-walked.ensures.total c.walk_in-walked.ensures.put c.walk_in-walked.ensures.filled c.walk_in-walked.ensures.few
 
   crossed : c.walk_in-walked.result.crossed ≡ crosses_any (taken_row c.in-Some.taken) (g.S.SideBook.state c.args.other.now).rows
   crossed = c.walk_in-walked.ensures.crossed ∙ ap (λ (x : Priced). crosses_any x (g.S.SideBook.state c.args.other.now).rows) c.row_of-t.ensures

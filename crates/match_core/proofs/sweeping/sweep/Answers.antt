@@ -1,13 +1,10 @@
-use Rattle.std.proofs.Common.{◌≡◌, ◌+◌, ◌*◌, ◌≤◌, [], ℕ, List, length, vec_len, reverse, refl, sym, ap, ◌∙◌, arith}
+use Rattle.std.proofs.Common.{◌≡◌, List, vec_len, reverse, refl, ap, ◌∙◌, arith}
 use Rattle.std.proofs.lemmas.List.{reverse-reverse}
-use Rattle.std.specs.List.{AllByRecursion}
-use Rattle.venue_words.specs.declared.row.Priced.{Priced}
 use Rattle.peg_groups.specs.declared.side_book.Taken.{Taken}
-use Rattle.match_core.specs.Aside.{HasLeaves, taken_rows, put_filled}
-use Rattle.match_core.specs.Sweeping.{Stage, stage_of, rest_of_work}
+use Rattle.match_core.specs.Aside.{taken_rows}
+use Rattle.match_core.specs.Sweeping.{stage_of, rest_of_work}
 use Rattle.match_core.proofs.Stages.{stage_begins, room_begins, sweep_ends, few_ends, steps_end}
 use Rattle.match_core.proofs.Turns.{filled_full}
-use Rattle.match_core.proofs.sweeping.sweep.Given.{Over}
 use Rattle.match_core.proofs.sweeping.sweep.Goals as goal
 
 back : (items turned : List Taken) → turned ≡ reverse items → reverse turned ≡ items

@@ -1,4 +1,4 @@
-use Rattle.std.proofs.Common.{◌≡◌, ◌≤◌, ◌<◌, ◌+◌, ◌-◌, ◌*◌, ◌++◌, ◌∷◌, [], ◌&&◌, ℕ, suc, nat_lt, nat_le, true, false, refl, sym, ◌∙◌, ap, List, length, reverse, filter, arith, append-nil, Bool, vec_len}
+use Rattle.std.proofs.Common.{◌≡◌, ◌≤◌, ◌+◌, ◌-◌, ◌*◌, ◌++◌, [], ◌&&◌, ℕ, nat_lt, nat_le, true, false, sym, ◌∙◌, ap, List, length, reverse, filter, arith, append-nil, Bool, vec_len}
 use Rattle.std.proofs.lemmas.List.{reverse-reverse}
 use Rattle.venue_words.specs.declared.row.Priced.{Priced}
 use Rattle.venue_words.specs.Priority.{in_priority}
@@ -8,7 +8,6 @@ use Rattle.eager_meaning.specs.Walk.{walk, total_of, least_walk}
 use Rattle.eager_meaning.specs.Matching.{takes_of, fills_of, rows_after}
 use Rattle.peg_groups.specs.declared.side_book.Taken.{Taken}
 use Rattle.match_core.specs.Aside.{PassesAll, Gathered, taken_rows, finals, put_filled}
-use Rattle.peg_groups.specs.Side.{taken_row}
 use Rattle.match_core.proofs.SetAside.{length_rows}
 use Rattle.match_core.proofs.Trades.{fills_none}
 use Rattle.match_core.proofs.AfterTrades.{rows_settled, rows_given_back, total_left, total_traded, walk_length, length_put_in, cost_of_walk}

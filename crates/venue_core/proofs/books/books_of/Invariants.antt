@@ -1,5 +1,5 @@
 -- The books so far have the first limits and ticks.
-use Rattle.std.proofs.Common.{◌≡◌, map, take, length}
+use Rattle.std.proofs.Common.{◌≡◌, map, take}
 use Rattle.std.specs.List.{All}
 use Rattle.venue_core.specs.Books.{IsNewBook}
 use Rattle.venue_core.proofs.books.books_of.Given as goal

@@ -1,5 +1,5 @@
 -- The gates have the settings of the books.
-use Rattle.std.proofs.Common.{◌≡◌, ℕ, List, map, length, ◌∙◌}
+use Rattle.std.proofs.Common.{◌≡◌, List, map, length, ◌∙◌}
 use Rattle.symbol_book.specs.Book.{BookView}
 use Rattle.symbol_book.specs.Setting.{setting_of}
 use Rattle.turn_gate.specs.Seats.{GateId}
@@ -14,5 +14,5 @@ returns-clause-settings c =
     let made = c.in_ok-books.ensures in
     let e = settings_of (length c.args.config.now.markets) c.in_ok-books.books.items c.args.config.now.ticks made.ticks made.books in
     map_ok c.from_books.result (λ (made : VenueId × List SeatState). map (λ (gate : GateId). gate.setting) made.0.gates ≡ map (λ (book : BookView). setting_of book.markets book.tick) c.in_ok-books.books.items)
-        (λ (made : VenueId × List SeatState). map (λ (gate : GateId). gate.setting) made.0.gates ≡ map (setting_of (length c.args.config.now.markets)) c.args.config.now.ticks)
-        (λ made so. so ∙ e) c.from_books.ensures.settings
+    (λ (made : VenueId × List SeatState). map (λ (gate : GateId). gate.setting) made.0.gates ≡ map (setting_of (length c.args.config.now.markets)) c.args.config.now.ticks)
+    (λ made so. so ∙ e) c.from_books.ensures.settings

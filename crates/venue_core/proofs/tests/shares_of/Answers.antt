@@ -1,5 +1,5 @@
 -- One more seat of each gate was split off.
-use Rattle.std.proofs.Common.{◌≡◌, ℕ, ◌+◌, ◌-◌, ◌∷◌, ◌++◌, [], List, length, sym, ap, ◌∙◌, refl, subst, length-append, arith}
+use Rattle.std.proofs.Common.{◌≡◌, ℕ, ◌+◌, ◌-◌, ◌∷◌, ◌++◌, [], List, length, sym, ap, refl, subst, length-append, arith}
 use Rattle.std.specs.List.{All}
 use Rattle.std.proofs.lemmas.List.Elements.{All-same, All-push}
 use Rattle.turn_gate.specs.Rule.{whole}

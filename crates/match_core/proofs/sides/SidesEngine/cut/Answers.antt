@@ -1,4 +1,4 @@
-use Rattle.std.proofs.Common.{◌≡◌, ◌≤◌, ◌+◌, length, sym, ap, ◌∙◌, arith}
+use Rattle.std.proofs.Common.{length, sym, ap, arith}
 use Rattle.match_core.proofs.Changes.{without_absent}
 use Rattle.match_core.proofs.SideRows.{rests_buy, rests_sell, sides_cut_buy, sides_cut_sell, without_fewer, ready_fewer, if_some_map, on_buys, on_sells}
 use Rattle.match_core.proofs.sides.SidesEngine.cut.Goals as goal

@@ -1,4 +1,4 @@
-use Rattle.std.proofs.Common.{◌≡◌, arith}
+use Rattle.std.proofs.Common.{arith}
 use Rattle.match_core.proofs.KeyCounts.{keys_of_both, keys_fit}
 use Rattle.match_core.proofs.sides.SidesEngine.groups.Goals as goal
 

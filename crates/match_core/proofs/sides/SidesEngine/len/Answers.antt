@@ -1,4 +1,4 @@
-use Rattle.std.proofs.Common.{◌≡◌, arith}
+use Rattle.std.proofs.Common.{arith}
 use Rattle.match_core.proofs.SideRows.{rows_fit}
 use Rattle.match_core.proofs.sides.SidesEngine.len.Goals as goal
 

@@ -1,4 +1,4 @@
-use Rattle.std.proofs.Common.{◌≡◌, sym}
+use Rattle.std.proofs.Common.{sym}
 use Rattle.match_core.proofs.Changes.{leaves_absent}
 use Rattle.match_core.proofs.SideRows.{rests_buy, rests_sell, sides_lower_buy, sides_lower_sell}
 use Rattle.match_core.proofs.sides.SidesEngine.lower.Goals as goal

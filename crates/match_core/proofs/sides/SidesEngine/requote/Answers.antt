@@ -1,4 +1,4 @@
-use Rattle.std.proofs.Common.{◌≡◌, arith}
+use Rattle.std.proofs.Common.{arith}
 use Rattle.match_core.proofs.SideRows.{sides_requoted}
 use Rattle.match_core.proofs.sides.SidesEngine.requote.Goals as goal
 

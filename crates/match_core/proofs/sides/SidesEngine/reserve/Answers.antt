@@ -1,5 +1,5 @@
 use Rattle.std.specs.Prelude.{is_some, Result, Ok, Err, OnOk}
-use Rattle.std.proofs.Common.{◌≡◌, length, ap, ◌∙◌, arith}
+use Rattle.std.proofs.Common.{length, ap, ◌∙◌, arith}
 use Rattle.peg_groups.specs.Side.{SideState}
 use Rattle.match_core.proofs.KeyCounts.{width_most, width_same}
 use Rattle.match_core.proofs.SideRows.{rows_fit}
