@@ -36,41 +36,6 @@ if_some_map : (o : Option (List ℕ)) (P Q : List ℕ → Type 0) → ((x : List
 if_some_map None P Q f h = tt
 if_some_map (Some x) P Q f h = f x h
 
--- the words that remain name a script, or none
-pub script_is : (words read : List (List ℕ)) (found : Option (List ℕ)) → remaining words ≡ Some read → form_of read ≡ found
-    → script_named words ≡ found
-script_is words read found e f = ap (option_and_then form_of) e ∙ f
-
-pub no_words : (words : List (List ℕ)) → remaining words ≡ None → script_named words ≡ None
-no_words words e = ap (option_and_then form_of) e
-
-pub ran_named : (told : Option Files) (words : List (List ℕ)) (name : List ℕ) (old new : Seen) (left : Option (List ℕ))
-    (status result : Status) (rose : Type 0) → script_named words ≡ Some name
-    → IfSome told (λ files. IfSome (file_named files name) (λ bytes. Ran bytes old new left status))
-    → Told status result rose → IfSome (script_told told words) (λ bytes. Ran bytes old new left result)
-ran_named None words name old new left status result rose e h t = tt
-ran_named (Some files) words name old new left status result rose e h t = rw e
-    (if_some_map (file_named files name) _ _ (λ bytes x. ran_told bytes old new left status result rose t x) h)
-
--- no script is named, so there is nothing to be told of one
-pub ran_unnamed : (told : Option Files) (words : List (List ℕ)) (P : List ℕ → Type 0) → script_named words ≡ None
-    → IfSome (script_told told words) P
-ran_unnamed None words P e = tt
-ran_unnamed (Some files) words P e = rw e tt
-
-pub ran_none : (told : Option Files) (words : List (List ℕ)) (t : Seen) (left : Option (List ℕ)) (result : Status) → result ≡ NoMemory
-    → IfSome (script_told told words) (λ bytes. Ran bytes t t left result)
-ran_none told words t left result e = rw e (no_room (script_told told words) left t)
-
-pub lacks_unnamed : (told : Option Files) (words : List (List ℕ)) → script_named words ≡ None → LacksScript told words → ⊥
-lacks_unnamed None words e h = h
-lacks_unnamed (Some files) words e h = (rw e at h).0
-
-pub lacks_named : (told : Option Files) (words : List (List ℕ)) (name : List ℕ) (P : Type 0) → script_named words ≡ Some name
-    → IfSome told (λ files. IsNone (file_named files name) → P) → LacksScript told words → P
-lacks_named None words name P e f h = absurd h
-lacks_named (Some files) words name P e f h = f ((rw e at h).1)
-
 -- what is left where a script is whole and no count rose
 done_or_not : (bytes : List ℕ) (old new left : Option (List ℕ)) (result : Status) → Outcome bytes old new left result
     → (script bytes).fault ≡ None → result ≢ ReadFault → result ≢ WriteFault → (result ≡ Done) ⊎ (result ≡ NoMemory)
@@ -92,38 +57,7 @@ pub ran_after : (o : Option (List ℕ)) (old new : Seen) (left : Option (List �
     → IfSome o (λ bytes. Ran bytes old new left status) → Told status result rose → IfSome o (λ bytes. Ran bytes old new left result)
 ran_after o old new left status result rose h t = if_some_map o _ _ (λ bytes x. ran_told bytes old new left status result rose t x) h
 
--- words that are refused
-pub ran_refused : (told : Option Files) (words : List (List ℕ)) (t : Seen) (left : Option (List ℕ)) (fault : WordFault)
-    → (fault ≡ word.BadWords → remaining words ≡ None) → IfSome (script_told told words) (λ bytes. Ran bytes t t left (refusal_of fault))
-ran_refused told words t left word.BadWords h = ran_unnamed told words _ (no_words words (h refl))
-ran_refused told words t left word.NoMemory h = ran_none told words t left NoMemory refl
-
-pub missing_refused : (told : Option Files) (words : List (List ℕ)) (fault : WordFault) (P : Type 0) → (fault ≡ word.BadWords → remaining words ≡ None)
-    → LacksScript told words → P → ((refusal_of fault ≡ ReadFault) ⊎ (refusal_of fault ≡ NoMemory)) × P
-missing_refused told words word.BadWords P h l p = absurd (lacks_unnamed told words (no_words words (h refl)) l)
-missing_refused told words word.NoMemory P h l p = (inr refl, p)
-
-pub words_refused : (words : List (List ℕ)) (fault : WordFault) → (fault ≡ word.BadWords → remaining words ≡ None)
-    → refusal_of fault ≡ BadWords → script_named words ≡ None
-words_refused words word.BadWords h e = no_words words (h refl)
-words_refused words word.NoMemory h e = absurd (cc)
-
-pub other_refused : (fault : WordFault) → (refusal_of fault ≡ BadWords) ⊎ (refusal_of fault ≡ NoMemory)
-other_refused word.BadWords = inl refl
-other_refused word.NoMemory = inr refl
-
-pub never_read : (fault : WordFault) → refusal_of fault ≢ ReadFault
-never_read word.BadWords e = cc
-never_read word.NoMemory e = cc
-
-pub never_write : (fault : WordFault) → refusal_of fault ≢ WriteFault
-never_write word.BadWords e = cc
-never_write word.NoMemory e = cc
-
-pub same_file : (told : Option Files) (words : List (List ℕ)) (name other : List ℕ) → script_named words ≡ Some name → script_named words ≡ Some other
-    → HasFile told other → HasFile told name
-same_file told words name other e f h = let same : other ≡ name = cc in subst (λ (n : List ℕ). HasFile told n) same h
-
+-- the other clauses, once the text of the status was put
 pub missing_told : (status result : Status) (rose P : Type 0) → Told status result rose
     → ((status ≡ ReadFault) ⊎ (status ≡ NoMemory)) × P → ((result ≡ ReadFault) ⊎ (result ≡ NoMemory)) × P
 missing_told status result rose P t x = (elim x.0 [ inl e ↦ inl (rw e at t) | inr e ↦ inr (rw e at t) ], x.1)

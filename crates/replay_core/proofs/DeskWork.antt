@@ -67,7 +67,7 @@ reads_same stream unread piece h =
 pub piece_same : (symbols : ℕ) (config : Config) (moment : ℤ) (desk : DeskView) (member : Member) (piece : List ℕ)
     → IsDeskOf symbols desk member → desks.work_of_piece config moment desk piece ≡ work_of_bytes config moment member piece
 piece_same symbols config moment desk member piece x = rw (x.number, x.session) (elim x.stream [
-  inl over ↦ over_reading config member.number moment member.session (reading_of (desk.unread ++ piece)) over
+  | inl over ↦ over_reading config member.number moment member.session (reading_of (desk.unread ++ piece)) over
       ∙ sym (over_reading config member.number moment member.session (reading_behind member.stream piece) over)
   | inr unread ↦ ap (work_of_reading config member.number moment member.session) (sym (reads_same member.stream desk.unread piece unread))
 ])
@@ -81,9 +81,9 @@ unread_more : (stream unread piece rest : List ℕ) → AreUnread stream unread 
 unread_more stream unread piece rest h k more =
     let here : reading_of (stream ++ piece) ≡ with_frames (reading_of stream).frames (reading_of (unread ++ piece)) = h piece in
     let there : reading_of (stream ++ (piece ++ more))
-        ≡ with_frames (reading_of stream).frames (reading_of (unread ++ (piece ++ more))) = h (piece ++ more) in
+    ≡ with_frames (reading_of stream).frames (reading_of (unread ++ (piece ++ more))) = h (piece ++ more) in
     let next : reading_of ((unread ++ piece) ++ more)
-        ≡ with_frames (reading_of (unread ++ piece)).frames (reading_of (rest ++ more)) = k more in
+    ≡ with_frames (reading_of (unread ++ piece)).frames (reading_of (rest ++ more)) = k more in
     ap reading_of (append_assoc stream piece more) ∙ there
     ∙ ap (λ (bytes : List ℕ). with_frames (reading_of stream).frames (reading_of bytes)) (sym (append_assoc unread piece more))
     ∙ ap (with_frames (reading_of stream).frames) next
@@ -99,7 +99,7 @@ over_fed : (config : Config) (moment : ℤ) (member : Member) (piece : List ℕ)
     → IsOver (work_of_bytes config moment member piece).session
 over_fed config moment member piece over =
     let e : (work_of_bytes config moment member piece).session ≡ member.session = ap (λ (w : Work). w.session)
-        (over_reading config member.number moment member.session (reading_behind member.stream piece) over) in
+    (over_reading config member.number moment member.session (reading_behind member.stream piece) over) in
     subst (λ (s : Machine). IsOver s) (sym e) over
 
 stream_fed : (config : Config) (moment : ℤ) (member : Member) (unread piece rest : List ℕ)
@@ -168,7 +168,7 @@ cursor_moved : (config : Config) (journals : List (List Event)) (before after me
 cursor_moved config journals before after member reports moved cursors same k l =
     let f : ℕ → ℕ = λ symbol. max (cursor_at member symbol) (length (reports_at config journals symbol)) in
     let there : get_or (map f (range_with_len 0 (length config.symbols))) k 0 ≡ f k =
-        get_or-map-range_with_len f 0 (length config.symbols) k k 0 l (omega arith) in
+    get_or-map-range_with_len f 0 (length config.symbols) k k 0 l (omega arith) in
     moved.read k l ∙ ap (λ (c : ℕ). max c (length (reports k))) (cursors k l)
     ∙ ap (λ (r : List Report). max (cursor_at member k) (length r)) (same k l) ∙ sym there
 
@@ -195,7 +195,7 @@ desk_pulled config moment journals desk next member reports x same number unread
   number = number ∙ x.number;
   session = session ∙ ap (λ (o : Outcome). o.machine) (sends_same config moment desk member journals reports x same);
   stream = elim x.stream [
-    inl over ↦ inl (over_sent member.session (messages_past config member.number member.cursors (reports_at config journals)) moment over)
+    | inl over ↦ inl (over_sent member.session (messages_past config member.number member.cursors (reports_at config journals)) moment over)
     | inr read ↦ inr (subst (λ (u : List ℕ). AreUnread member.stream u) (sym unread) read)
   ];
   cursors = cursors_pulled config journals desk.cursors next.cursors member.cursors reports (is_up member.session.state)

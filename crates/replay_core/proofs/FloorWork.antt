@@ -42,7 +42,7 @@ eq_or_not (suc a) (suc b) = elim (eq_or_not a b) [ inl e ↦ inl (ap suc e) | in
 
 less_or_not : (a b : ℕ) → (a < b) ⊎ (b ≤ a)
 less_or_not a b = elim (nat_lt a b) as (λ t. nat_lt a b ≡ t → (a < b) ⊎ (b ≤ a)) [
-  true ↦ λ e. inl (grind (arith, nat_tests))
+  | true ↦ λ e. inl (grind (arith, nat_tests))
   | false ↦ λ e. inr (grind (arith, nat_tests))
 ] refl
 
@@ -68,7 +68,7 @@ length_set (j0 ∷ js) (suc s) j = ap suc (length_set js s j)
 -- a number in a list stands within it
 within : (xs : List ℕ) (i n : ℕ) → 0 < n → n ≤ slice_index xs i → i < length xs
 within xs i n some most = elim (less_or_not i (length xs)) [
-  inl l ↦ l
+  | inl l ↦ l
   | inr past ↦ let none : slice_index xs i ≡ 0 = get_or_past xs i 0 past in absurd (omega arith)
 ]
 
@@ -82,29 +82,30 @@ own_next : (before after : SymbolView) (number feed : ℕ) (moment : ℤ) (comma
     × (number ≡ length before.journal + 1)
 own_next before after number feed moment command old new r =
     let own : length (range_with_len 1 (length after.journal)) ≡ length (range_with_len 1 (length before.journal) ++ number ∷ []) =
-        ap length (sym new ∙ r.3 ∙ ap (λ (xs : List ℕ). xs ++ number ∷ []) old) in
+    ap length (sym new ∙ r.3 ∙ ap (λ (xs : List ℕ). xs ++ number ∷ []) old) in
     let grew : length after.journal ≡ length before.journal + 1 = omega (arith, simp (length-append, length-range_with_len) at own) in
     let whole : length after.journal ≡ length ((before.journal ++ r.0) ++ event number feed moment command ∷ []) = ap length r.1 in
     let short : length r.0 ≡ 0 = omega (arith, simp length-append at whole) in
     let none : r.0 ≡ [] = empty r.0 short in
     let count : number ≡ length before.journal + 1 = r.2 ∙ grew in
-    let joined : before.journal ++ r.0 ≡ before.journal = ap (λ (xs : List Event). before.journal ++ xs) none ∙ append-nil before.journal in
-    (r.1 ∙ ap (λ (js : List Event). js ++ event number feed moment command ∷ []) joined
-    ∙ ap (λ (n : ℕ). before.journal ++ event n feed moment command ∷ []) count, count)
+    let joined : before.journal ++ r.0 ≡ before.journal = ap (λ (xs : List Event). before.journal ++ xs) none ∙ append-nil before.journal in (
+      r.1 ∙ ap (λ (js : List Event). js ++ event number feed moment command ∷ []) joined
+          ∙ ap (λ (n : ℕ). before.journal ++ event n feed moment command ∷ []) count,
+      count,
+    )
 
 -- where nothing was recorded the journal stayed
 pub own_kept : (before after : SymbolView) → before.mine ≡ range_with_len 1 (length before.journal)
     → after.mine ≡ range_with_len 1 (length after.journal) → AddsNone before after → after.journal ≡ before.journal
 own_kept before after old new h =
     let own : length (range_with_len 1 (length after.journal)) ≡ length (range_with_len 1 (length before.journal)) =
-        ap length (sym new ∙ h.1 ∙ old) in
+    ap length (sym new ∙ h.1 ∙ old) in
     let same : length after.journal ≡ length before.journal = omega (arith, simp length-range_with_len at own) in
     let whole : length after.journal ≡ length (before.journal ++ h.0.0) = ap length h.0.1 in
     let short : length h.0.0 ≡ 0 = omega (arith, simp length-append at whole) in
     h.0.1 ∙ ap (λ (xs : List Event). before.journal ++ xs) (empty h.0.0 short) ∙ append-nil before.journal
 
 -- ---- commands that a floor took
-
 
 -- what is shown once commands were recorded, and the steps by then
 pub record Took {F : Type 0} (at : F → ℕ → SymbolView) (config : Config) (r : Recorded) (before : ℕ) (after : F × ℕ) : Type 0 where
@@ -139,27 +140,27 @@ pub took_one : {F : Type 0} (mark_of : F → FloorMark) (at : F → ℕ → Symb
     → TookOne at limit mark 1 moment one before after → TookFirst at config moment one journals before.1 after
 took_one mark_of at limit state config mark moment one journals before after plain limits each shows t =
     let next = own_next (at before.0 one.symbol) (at after.0 one.symbol) t.number 1 moment one.command
-        (plain.own before.0 one.symbol) (plain.own after.0 one.symbol) t.records in
+    (plain.own before.0 one.symbol) (plain.own after.0 one.symbol) t.records in
     let most : t.number ≤ slice_index config.limits one.symbol =
-        subst (λ (s : Setup). t.number ≤ slice_index s.limits one.symbol) plain.setup t.room in
+    subst (λ (s : Setup). t.number ≤ slice_index s.limits one.symbol) plain.setup t.room in
     let some : 0 < t.number = omega (arith, next.1) in
     let inside : one.symbol < length config.symbols = omega (arith, within config.limits one.symbol t.number some most) in
     let here : (at before.0 one.symbol).journal ≡ journal_at journals one.symbol = shows one.symbol inside in
     let long : length (at before.0 one.symbol).journal ≡ length (journal_at journals one.symbol) = ap length here in
     let told : (at after.0 one.symbol).journal ≡ journal_at journals one.symbol ++ next_event moment one journals ∷ [] =
-        next.0 ∙ ap (λ (j : List Event). j ++ event (length j + 1) 1 moment one.command ∷ []) here in
+    next.0 ∙ ap (λ (j : List Event). j ++ event (length j + 1) 1 moment one.command ∷ []) here in
     let found : t.steps.0 ≡ journal_at journals one.symbol =
-        last_same t.steps.0 (journal_at journals one.symbol) _ _ (sym t.steps.1 ∙ told) in
+    last_same t.steps.0 (journal_at journals one.symbol) _ _ (sym t.steps.1 ∙ told) in
     let count : t.number ≡ length (journal_at journals one.symbol) + 1 = next.1 ∙ ap (λ (n : ℕ). n + 1) long in
     let known : limit mark one.symbol t.steps.0 (event t.number 1 moment one.command)
-        ≡ Some (most_steps config one.symbol (journal_at journals one.symbol) (next_event moment one journals)) =
-        ap (λ (j : List Event). limit mark one.symbol j (event t.number 1 moment one.command)) found
-        ∙ ap (λ (n : ℕ). limit mark one.symbol (journal_at journals one.symbol) (event n 1 moment one.command)) count
-        ∙ plain.steps one.symbol (journal_at journals one.symbol) (next_event moment one journals) inside in
+    ≡ Some (most_steps config one.symbol (journal_at journals one.symbol) (next_event moment one journals)) =
+    ap (λ (j : List Event). limit mark one.symbol j (event t.number 1 moment one.command)) found
+    ∙ ap (λ (n : ℕ). limit mark one.symbol (journal_at journals one.symbol) (event n 1 moment one.command)) count
+    ∙ plain.steps one.symbol (journal_at journals one.symbol) (next_event moment one journals) inside in
     record {
       room = has_room_for config journals one.symbol (omega (arith, most, next.1));
       shows = λ symbol l. elim (eq_or_not symbol one.symbol) [
-        inl e ↦ rw e (told ∙ sym (journal_set_same journals one.symbol (journal_at journals one.symbol ++ next_event moment one journals ∷ []) (omega arith)))
+        | inl e ↦ rw e (told ∙ sym (journal_set_same journals one.symbol (journal_at journals one.symbol ++ next_event moment one journals ∷ []) (omega arith)))
         | inr n ↦ ap (λ (v : SymbolView). v.journal) (t.others symbol n) ∙ shows symbol l
             ∙ sym (journal_set_other journals one.symbol symbol (journal_at journals one.symbol ++ next_event moment one journals ∷ []) n)
       ];
@@ -204,7 +205,7 @@ pub no_steps : {F : Type 0} (mark_of : F → FloorMark) (at : F → ℕ → Symb
 no_steps mark_of at limit state config mark moment [] before after plain h = h
 no_steps mark_of at limit state config mark moment (one ∷ others) before after plain h =
     let known = plain.counted one.symbol (at after.0 one.symbol).journal
-        (event (length (at after.0 one.symbol).journal + 1) 1 moment one.command) in
+    (event (length (at after.0 one.symbol).journal + 1) 1 moment one.command) in
     same_at _ known.0 before.1 after.1 known.1 h
 
 full_first : (config : Config) (moment : ℤ) (one : Submission) (others : List Submission) (journals : List (List Event))
@@ -219,9 +220,9 @@ none_full mark_of at limit state config mark moment symbol found [] journals bef
 none_full mark_of at limit state config mark moment symbol found (one ∷ others) journals before after plain limits shows t =
     let most : found ≡ slice_index config.limits symbol = subst (λ (s : Setup). found ≡ slice_index s.limits symbol) plain.setup t.full.2 in
     let kept : (at after.0 symbol).journal ≡ (at before.0 symbol).journal =
-        own_kept (at before.0 symbol) (at after.0 symbol) (plain.own before.0 symbol) (plain.own after.0 symbol) (t.next symbol t.full.0).none in
+    own_kept (at before.0 symbol) (at after.0 symbol) (plain.own before.0 symbol) (plain.own after.0 symbol) (t.next symbol t.full.0).none in
     let none : has_room config journals symbol ≡ false = elim (less_or_not symbol (length config.symbols)) [
-      inl l ↦ let long : length (at after.0 symbol).journal ≡ length (journal_at journals symbol) = ap length (kept ∙ shows symbol l) in
+      | inl l ↦ let long : length (at after.0 symbol).journal ≡ length (journal_at journals symbol) = ap length (kept ∙ shows symbol l) in
           has_no_room config journals symbol (omega (arith, long, t.full.1, most))
       | inr past ↦ let zero : slice_index config.limits symbol ≡ 0 = get_or_past config.limits symbol 0 (omega arith) in
           has_no_room config journals symbol (omega arith)
@@ -234,7 +235,7 @@ recorded_first : (config : Config) (moment : ℤ) (x : Submission) (zs : List Su
     → has_room config journals x.symbol ≡ true
     → recorded config moment (x ∷ zs) journals
     ≡ recorded_behind (most_steps config x.symbol (journal_at journals x.symbol) (next_event moment x journals))
-        (recorded config moment zs (with_event moment x journals))
+    (recorded config moment zs (with_event moment x journals))
 recorded_first config moment x zs journals room = rw room refl
 
 -- what one part leaves, and then the other
@@ -254,7 +255,7 @@ parts_more config moment x xs ys journals room p =
     let all : (recorded config moment (x ∷ (xs ++ ys)) journals).steps ≡ _ = ap (λ (r : Recorded). r.steps) both in
     let some : (recorded config moment (x ∷ xs) journals).steps ≡ _ = ap (λ (r : Recorded). r.steps) first in
     let rest : (recorded config moment ys (recorded config moment (x ∷ xs) journals).journals).steps ≡ _ =
-        ap (λ (r : Recorded). (recorded config moment ys r.journals).steps) first in
+    ap (λ (r : Recorded). (recorded config moment ys r.journals).steps) first in
     record {
       full = ap (λ (r : Recorded). r.is_full) both ∙ p.full
           ∙ sym (ap (λ (r : Recorded). (recorded config moment ys r.journals).is_full) first);
@@ -266,7 +267,7 @@ pub recorded_append : (config : Config) (moment : ℤ) (xs ys : List Submission)
 recorded_append config moment [] ys journals e = record { full = refl; steps = omega arith }
 recorded_append config moment (x ∷ xs) ys journals e =
     elim (has_room config journals x.symbol) as (λ b. has_room config journals x.symbol ≡ b → Parts config moment (x ∷ xs) ys journals) [
-      true ↦ λ room. parts_more config moment x xs ys journals room
+      | true ↦ λ room. parts_more config moment x xs ys journals room
           (recorded_append config moment xs ys (with_event moment x journals)
           (ap (λ (r : Recorded). r.is_full) (sym (recorded_first config moment x xs journals room)) ∙ e))
       | false ↦ λ none. absurd (let yes : (recorded config moment (x ∷ xs) journals).is_full ≡ true = full_first config moment x xs journals none in cc)

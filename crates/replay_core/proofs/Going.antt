@@ -67,6 +67,6 @@ pub goes_long : {F : Type 0} (at : F → ℕ → SymbolView) (a b : Seen) (f : L
 goes_long at a b f reader rest fault x none h =
     leads_halts a b b f (λ more. ahead x.place reader.held (rest ++ more)) (status_of fault) x.leads
     (long_refused b x.place reader.held rest fault x.there.clear none (elim h [
-      inl wanted ↦ inl wanted
+      | inl wanted ↦ inl wanted
       | inr long ↦ inr (long.0 ∙ ap (λ (n : ℕ). Limit (n + 1) Line) x.there.lines, long.1)
     ]))

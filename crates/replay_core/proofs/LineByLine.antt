@@ -63,8 +63,8 @@ line_begins a b p q held part text e h step steps grew = record {
       ∙ append_assoc (take grew.0 text) (drop grew.0 text) (played q more).text;
   counted = λ more.
       let all : (played p (held ++ (part ++ 10 ∷ more))).steps ≡ (step_at p (held ++ part)).steps + (played q more).steps =
-          ap (λ (x : Played). x.steps)
-          (line_ahead p held part more e h ∙ worked_line (step_at p (held ++ part)) q text (λ q. played q more) step) in
+      ap (λ (x : Played). x.steps)
+      (line_ahead p held part more e h ∙ worked_line (step_at p (held ++ part)) q text (λ q. played q more) step) in
       omega (arith, steps, all);
 }
 
@@ -95,7 +95,7 @@ line_steps : (p : Place) (held part more : List ℕ) → has_end held ≡ false 
 line_steps p held part more e h =
     let n = either_steps (step_at p (held ++ part)).steps (step_at p (held ++ part)).result (λ q. played q more) in
     let all : (played p (held ++ (part ++ 10 ∷ more))).steps ≡ (after_line (step_at p (held ++ part)) (λ q. played q more)).steps =
-        ap (λ (x : Played). x.steps) (line_ahead p held part more e h) in
+    ap (λ (x : Played). x.steps) (line_ahead p held part more e h) in
     omega arith
 
 pub line_refused : (a b : Seen) (p : Place) (held part : List ℕ) (fault : LineFault) → has_end held ≡ false

@@ -107,7 +107,7 @@ ended (Some bytes) None old t f last x e h none = absurd x.taken
 ended (Some bytes) (Some ys) old t f last x e h none =
     let all : bytes ≡ x.given ++ [] = x.taken ∙ ap (λ (ys : List ℕ). x.given ++ ys) e in
     let leads : Leads old t (λ more. onto x.leads.done x.leads.spent (f [])) (λ _. last) =
-        record { done = x.leads.done; grew = x.leads.grew; spent = x.leads.spent; counted = x.leads.counted; goes = λ more. ap (onto x.leads.done x.leads.spent) h } in
+    record { done = x.leads.done; grew = x.leads.grew; spent = x.leads.spent; counted = x.leads.counted; goes = λ more. ap (onto x.leads.done x.leads.spent) h } in
     told_whole old t (Some ys) bytes [] (λ more. onto x.leads.done x.leads.spent (f [])) last (ending last.fault)
     (ap script all ∙ x.leads.goes []) leads none (λ grew why. finish old.told t.told (Some ys) bytes last.fault grew why)
 
@@ -119,8 +119,8 @@ gave_up (Some bytes) (Some ys) None old t f x e h = absurd e
 gave_up (Some bytes) (Some ys) (Some zs) old t f x e h =
     let whole : script (x.given ++ []) ≡ onto x.leads.done x.leads.spent (f []) = x.leads.goes [] in
     let text : (script x.given).text ≡ x.leads.done =
-        ap (λ (p : Played). p.text) (rw append-nil at whole) ∙ ap (λ (ys : List ℕ). x.leads.done ++ ys) h
-        ∙ append-nil x.leads.done in
+    ap (λ (p : Played). p.text) (rw append-nil at whole) ∙ ap (λ (ys : List ℕ). x.leads.done ++ ys) h
+    ∙ append-nil x.leads.done in
     let steps : (script bytes).steps ≡ x.leads.spent + (f ys).steps = ap (λ (p : Played). p.steps) (ap script x.taken ∙ x.leads.goes ys) in
     record {
       outcome = record { given = x.given; rest = zs; whole = rw e x.taken; place = refl; grew = rw text x.leads.grew };

@@ -53,14 +53,14 @@ refusal_of {F} mark_of at limit state config mark member moment session last fra
     let first = work_of_frames config member moment session x.worked in
     let rest = work_of_frames config member moment first.session x.left in
     let took : Took at config (recorded config moment first.submissions journals) before.1 x.between =
-        took_all mark_of at limit state config mark moment first.submissions journals before x.between plain limits each shows x.took in
+    took_all mark_of at limit state config mark moment first.submissions journals before x.between plain limits each shows x.took in
     let subs : (work_of_frames config member moment session frames).submissions ≡ first.submissions ++ rest.submissions =
-        ap (λ (fs : List (List ℕ)). (work_of_frames config member moment session fs).submissions) x.frames_are
-        ∙ frames_append config member moment session x.worked x.left in
+    ap (λ (fs : List (List ℕ)). (work_of_frames config member moment session fs).submissions) x.frames_are
+    ∙ frames_append config member moment session x.worked x.left in
     let parts = recorded_append config moment first.submissions rest.submissions journals took.room in
     let idle = no_steps mark_of at limit state config mark moment rest.submissions x.between after plain x.rest.steps in
     let total : (recorded config moment (work_of_frames config member moment session frames).submissions journals).steps ≡ _ =
-        ap (λ (s : List Submission). (recorded config moment s journals).steps) subs ∙ parts.steps in
+    ap (λ (s : List Submission). (recorded config moment s journals).steps) subs ∙ parts.steps in
     record {
       full = λ symbol found e. ap (λ (s : List Submission). (recorded config moment s journals).is_full) subs ∙ parts.full
           ∙ none_full mark_of at limit state config mark moment symbol found rest.submissions

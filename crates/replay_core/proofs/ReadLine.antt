@@ -93,7 +93,10 @@ pub line_done : {F : Type 0} (at : F → ℕ → SymbolView) (n : ℕ) (playing 
 line_done at n playing text line kept last old between new e none done stands grew =
     let whole : between ≡ (work_of_line playing line).text = done.text ∙ ap (λ (xs : List ℕ). xs ++ (work_of_line playing line).text) none in
     let told : (work_of_line playing line).text ++ lines_of_pulls (worked playing line) ≡ new =
-        ap (λ (xs : List ℕ). xs ++ lines_of_pulls (worked playing line)) (sym whole) ∙ sym grew in
-    (after_pulls (worked playing line), ap (λ (a : Answer). a.result) (play_ok n playing text line e)
-    ∙ room_answer n (work_of_line playing line) (recorded_by (work_of_line playing line)) done.room
-    ∙ ap (λ (xs : List ℕ). Ok (after_pulls (worked playing line), xs)) told, stands)
+    ap (λ (xs : List ℕ). xs ++ lines_of_pulls (worked playing line)) (sym whole) ∙ sym grew in (
+      after_pulls (worked playing line),
+      ap (λ (a : Answer). a.result) (play_ok n playing text line e)
+          ∙ room_answer n (work_of_line playing line) (recorded_by (work_of_line playing line)) done.room
+          ∙ ap (λ (xs : List ℕ). Ok (after_pulls (worked playing line), xs)) told,
+      stands,
+    )

@@ -64,7 +64,7 @@ set_at markets (f ∷ fs) (v ∷ vs) (tick ∷ ticks) zero e t new l =
     let first : setting_of f.markets f.tick ≡ setting_of v.markets v.tick = cc in
     let here : v.tick ≡ tick = cc in
     let all : setting_of v.markets v.tick ≡ setting_of markets tick =
-        ap (λ (m : ℕ). setting_of m v.tick) new.0.markets_are ∙ ap (setting_of markets) here in
+    ap (λ (m : ℕ). setting_of m v.tick) new.0.markets_are ∙ ap (setting_of markets) here in
     record { book = f; is = refl; same = first ∙ all; number = first ∙ all }
 set_at markets (f ∷ fs) (v ∷ vs) (tick ∷ ticks) (suc symbol) e t new l =
     let rest : map (λ (b : BookView). setting_of b.markets b.tick ∷ []) fs ≡ map (λ (b : BookView). setting_of b.markets b.tick ∷ []) vs = cc in
@@ -91,7 +91,7 @@ unfolding run_in
 run_set config symbol setting journal e tick =
     ap (λ (s : ℕ). runs (markets_in s) (tick_in s) journal) e
     ∙ ap (λ (m : ℕ). runs m (tick_in (setting_of (length config.markets) (slice_index config.ticks symbol))) journal)
-        (markets_read (length config.markets) (slice_index config.ticks symbol) tick)
+    (markets_read (length config.markets) (slice_index config.ticks symbol) tick)
     ∙ ap (λ (t : ℕ). runs (length config.markets) t journal) (tick_read (length config.markets) (slice_index config.ticks symbol) tick)
 
 steps_set : (config : Config) (symbol setting : ℕ) (journal : List Event) (event : Event)
@@ -100,7 +100,7 @@ steps_set : (config : Config) (symbol setting : ℕ) (journal : List Event) (eve
 unfolding most_steps
 steps_set config symbol setting journal event e tick =
     let read : tick_in setting ≡ slice_index config.ticks symbol =
-        ap tick_in e ∙ tick_read (length config.markets) (slice_index config.ticks symbol) tick in
+    ap tick_in e ∙ tick_read (length config.markets) (slice_index config.ticks symbol) tick in
     ap (λ (t : ℕ). bound t (runs (markets_in setting) (tick_in setting) journal).state event.number event.command) read
     ∙ ap (λ (r : Run). bound (slice_index config.ticks symbol) r.state event.number event.command) (run_set config symbol setting journal e tick)
 

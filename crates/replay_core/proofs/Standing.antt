@@ -94,7 +94,7 @@ pub refused_quote : {F : Type 0} (mark_of : F → FloorMark) (at : F → ℕ →
     → IsRefused refusal (work_of_quote playing symbol command)
 refused_quote mark_of at limit state mark config ds moment now symbol command (Full full found) before after playing s e unsent =
     let here = moved (Unsent mark_of at limit state mark (record { symbol = symbol; command = command } ∷ []) (Full full found) before after)
-        config playing.config now playing.moment s.config (e ∙ s.moment) unsent in
+    config playing.config now playing.moment s.config (e ∙ s.moment) unsent in
     none_full mark_of at limit state playing.config mark playing.moment full found (record { symbol = symbol; command = command } ∷ [])
     playing.journals before after here.plain here.limits s.journals here.none
 refused_quote mark_of at limit state mark config ds moment now symbol command NoMemory before after playing s e unsent = tt
@@ -141,7 +141,7 @@ done_piece mark_of at limit state mark config ds moment now number desk next pie
     let same = piece_same (length playing.config.symbols) playing.config playing.moment desk (member_at playing number) piece x in
     let took = took_piece mark_of at limit state mark config ds moment now number desk next piece replies before after playing s e l here taken in
     let name : name_at config.members number ≡ name_at playing.config.members (member_at playing number).number =
-        ap (λ (k : Config). name_at k.members number) s.config ∙ ap (name_at playing.config.members) (sym own ∙ x.number) in
+    ap (λ (k : Config). name_at k.members number) s.config ∙ ap (name_at playing.config.members) (sym own ∙ x.number) in
     record {
       room = took.room;
       stands = record {
@@ -172,9 +172,9 @@ refusal_piece mark_of at limit state mark config ds moment now number desk last 
     let t = moved (Untaken mark_of at limit state mark desk last piece refusal before after) config playing.config now playing.moment s.config (e ∙ s.moment) untaken in
     let same = piece_same (length playing.config.symbols) playing.config playing.moment desk (member_at playing number) piece x in
     let subs : (work_of_frames playing.config desk.member playing.moment desk.session (reading_of (desk.unread ++ piece)).frames).submissions
-        ≡ (work_of_piece playing number piece).submissions =
-        sym (reading_commands playing.config desk.member playing.moment desk.session (reading_of (desk.unread ++ piece)))
-        ∙ ap (λ (w : Work). w.submissions) same in
+    ≡ (work_of_piece playing number piece).submissions =
+    sym (reading_commands playing.config desk.member playing.moment desk.session (reading_of (desk.unread ++ piece)))
+    ∙ ap (λ (w : Work). w.submissions) same in
     subst (λ (xs : List Submission). Refusal playing.config playing.moment xs playing.journals refusal before.1 after.1) subs
     (refusal_of mark_of at limit state playing.config mark desk.member playing.moment desk.session last (reading_of (desk.unread ++ piece)).frames
     refusal playing.journals before after t.plain t.limits s.each s.journals t.stopped)
@@ -203,9 +203,9 @@ pub stands_pulled : {F : Type 0} (at : F → ℕ → SymbolView) (config : Confi
     → StandsFor at (kept_of config next es now) (after_pulls playing)
 stands_pulled at config floor next ds es moment now playing s e pulls keeps =
     let shows : ShowsJournals at config floor playing.journals =
-        subst (λ (k : Config). ShowsJournals at k floor playing.journals) (sym s.config) s.journals in
+    subst (λ (k : Config). ShowsJournals at k floor playing.journals) (sym s.config) s.journals in
     let zip : AllZip (IsDeskOf (length config.symbols)) ds playing.members =
-        subst (λ (k : Config). AllZip (IsDeskOf (length k.symbols)) ds playing.members) (sym s.config) s.members in
+    subst (λ (k : Config). AllZip (IsDeskOf (length k.symbols)) ds playing.members) (sym s.config) s.members in
     record {
       config = s.config;
       moment = e ∙ s.moment;
@@ -222,8 +222,8 @@ pub text_pulled : {F : Type 0} (at : F → ℕ → SymbolView) (config : Config)
     → new ≡ old ++ lines_of_pulls playing
 text_pulled at config floor ds moment now playing old new s e pulls =
     let shows : ShowsJournals at config floor playing.journals =
-        subst (λ (k : Config). ShowsJournals at k floor playing.journals) (sym s.config) s.journals in
+    subst (λ (k : Config). ShowsJournals at k floor playing.journals) (sym s.config) s.journals in
     let zip : AllZip (IsDeskOf (length config.symbols)) ds playing.members =
-        subst (λ (k : Config). AllZip (IsDeskOf (length k.symbols)) ds playing.members) (sym s.config) s.members in
+    subst (λ (k : Config). AllZip (IsDeskOf (length k.symbols)) ds playing.members) (sym s.config) s.members in
     moved (λ k m. new ≡ old ++ flat_map (pull_lines k m playing.journals) playing.members)
     config playing.config now playing.moment s.config (e ∙ s.moment) (pulls playing.journals playing.members shows zip)

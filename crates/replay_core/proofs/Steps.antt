@@ -65,7 +65,7 @@ pub past_done : {F : Type 0} (at : F → ℕ → SymbolView) (phase next : Phase
 past_done at phase next place line now text out x w l =
     let done = w place.stage x.stage in
     let result : (here place text).result ≡ Ok (done.0, out) =
-        ap (λ (t : Turned). t.result) (sym (same_turn place line now text x.line_is x.now_is)) ∙ done.1 in
+    ap (λ (t : Turned). t.result) (sym (same_turn place line now text x.line_is x.now_is)) ∙ done.1 in
     inr (ap (λ (s : Stepped). s.result) (stepped_short place text x.short) ∙ past place text (here place text) l
     ∙ ap (λ (r : Result (Stage × List ℕ) LineFault). Err (over (place.lines + 1) r)) result
     ∙ ap (λ (n : ℕ). Err (Limit n Bytes)) (sym x.line_is))
@@ -74,12 +74,12 @@ pub past_refused : {F : Type 0} (at : F → ℕ → SymbolView) (phase : Phase F
     → AtLine at phase place line now text → Refused at phase fault line now → longest_script < place.bytes + length text + 1
     → (over_fault fault ≡ NoMemory) ⊎ ((step_at place text).result ≡ Err (over_fault fault))
 past_refused at phase place line now text fault x w l = elim (w place.stage x.stage) [
-  inl none ↦ inl (ap over_fault none)
+  | inl none ↦ inl (ap over_fault none)
   | inr e ↦
-    let result : (here place text).result ≡ Err fault =
-        ap (λ (t : Turned). t.result) (sym (same_turn place line now text x.line_is x.now_is)) ∙ e in
-    inr (ap (λ (s : Stepped). s.result) (stepped_short place text x.short) ∙ past place text (here place text) l
-    ∙ ap (λ (r : Result (Stage × List ℕ) LineFault). Err (over (place.lines + 1) r)) result)
+      let result : (here place text).result ≡ Err fault =
+      ap (λ (t : Turned). t.result) (sym (same_turn place line now text x.line_is x.now_is)) ∙ e in
+      inr (ap (λ (s : Stepped). s.result) (stepped_short place text x.short) ∙ past place text (here place text) l
+      ∙ ap (λ (r : Result (Stage × List ℕ) LineFault). Err (over (place.lines + 1) r)) result)
 ]
 
 pub inside_done : {F : Type 0} (at : F → ℕ → SymbolView) (phase next : Phase F) (place : Place) (line bytes : ℕ) (now text out held : List ℕ)
@@ -89,20 +89,23 @@ pub inside_done : {F : Type 0} (at : F → ℕ → SymbolView) (phase next : Pha
 inside_done at phase next place line bytes now text out held x w l e none =
     let done = w place.stage x.stage in
     let result : (here place text).result ≡ Ok (done.0, out) =
-        ap (λ (t : Turned). t.result) (sym (same_turn place line now text x.line_is x.now_is)) ∙ done.1 in
-    (next_place place text done.0, ap (λ (s : Stepped). s.result) (stepped_short place text x.short) ∙ inside place text (here place text) l
-    ∙ ap (placed place text) result, record { stage = done.2; lines = x.line_is; bytes = e; clear = ap has_end none })
+    ap (λ (t : Turned). t.result) (sym (same_turn place line now text x.line_is x.now_is)) ∙ done.1 in (
+      next_place place text done.0,
+      ap (λ (s : Stepped). s.result) (stepped_short place text x.short) ∙ inside place text (here place text) l
+          ∙ ap (placed place text) result,
+      record { stage = done.2; lines = x.line_is; bytes = e; clear = ap has_end none },
+    )
 
 pub inside_refused : {F : Type 0} (at : F → ℕ → SymbolView) (phase : Phase F) (place : Place) (line : ℕ) (now text : List ℕ) (fault : LineFault)
     → AtLine at phase place line now text → Refused at phase fault line now → place.bytes + length text + 1 ≤ longest_script
     → (fault ≡ NoMemory) ⊎ ((step_at place text).result ≡ Err fault)
 inside_refused at phase place line now text fault x w l = elim (w place.stage x.stage) [
-  inl none ↦ inl none
+  | inl none ↦ inl none
   | inr e ↦
-    let result : (here place text).result ≡ Err fault =
-        ap (λ (t : Turned). t.result) (sym (same_turn place line now text x.line_is x.now_is)) ∙ e in
-    inr (ap (λ (s : Stepped). s.result) (stepped_short place text x.short) ∙ inside place text (here place text) l
-    ∙ ap (placed place text) result)
+      let result : (here place text).result ≡ Err fault =
+      ap (λ (t : Turned). t.result) (sym (same_turn place line now text x.line_is x.now_is)) ∙ e in
+      inr (ap (λ (s : Stepped). s.result) (stepped_short place text x.short) ∙ inside place text (here place text) l
+      ∙ ap (placed place text) result)
 ]
 
 pub line_steps : {F : Type 0} (at : F → ℕ → SymbolView) (phase : Phase F) (place : Place) (line before after : ℕ) (now text : List ℕ)
@@ -111,6 +114,6 @@ pub line_steps : {F : Type 0} (at : F → ℕ → SymbolView) (phase : Phase F) 
     → after ≤ before + (step_at place text).steps
 line_steps at phase place line before after now text x w =
     let steps : (step_at place text).steps ≡ (turned line place.stage now).steps =
-        ap (λ (s : Stepped). s.steps) (stepped_short place text x.short)
-        ∙ ap (λ (t : Turned). t.steps) (sym (same_turn place line now text x.line_is x.now_is)) in
+    ap (λ (s : Stepped). s.steps) (stepped_short place text x.short)
+    ∙ ap (λ (t : Turned). t.steps) (sym (same_turn place line now text x.line_is x.now_is)) in
     subst (λ (n : ℕ). after ≤ before + n) (sym steps) (w place.stage x.stage)

@@ -13,15 +13,19 @@ took_at : {F : Type 0} (at : F → ℕ → SymbolView) (limit : FloorMark → �
     → ((other : ℕ) → other ≢ one.symbol → at after.0 other ≡ at before.0 other)
     → CostsAtMost (limit mark one.symbol) (at after.0 one.symbol).journal (event number feed moment one.command) before.1 after.1
     → TookAll at limit mark feed moment (one ∷ []) before after
-took_at at limit mark feed moment one number before after records room reports turns others steps = (after, record {
-  number = number;
-  records = records;
-  room = room;
-  reports = reports;
-  turns = turns;
-  others = others;
-  steps = steps;
-}, refl)
+took_at at limit mark feed moment one number before after records room reports turns others steps = (
+  after,
+  record {
+    number = number;
+    records = records;
+    room = room;
+    reports = reports;
+    turns = turns;
+    others = others;
+    steps = steps;
+  },
+  refl,
+)
 
 pub took_just : {F : Type 0} (at : F → ℕ → SymbolView) (limit : FloorMark → ℕ → List Event → Event → Option ℕ) (mark : FloorMark) (feed : ℕ) (now moment : ℤ) (one : Submission) (number : ℕ) (before after : F × ℕ) → now ≡ moment
     → Records (at before.0 one.symbol) (at after.0 one.symbol) number feed now one.command

@@ -36,9 +36,12 @@ pub head_ends : {F : Type 0} (at : F → ℕ → SymbolView) (n : ℕ) (header n
     → StandsFor at kept (before_body next.config)
     → (behind : Stage) × ((turned n stage text).result ≡ Ok (behind, [])) × IsAtStage at (phase.Body kept) behind
 unfolding turned
-head_ends at n header next whole (Head other) text kept e h w s =
-    (Body (before_body next.config), ap (λ (k : Header). after_header (header_line n k text)) (sym e)
-    ∙ ap after_header (h ∙ ap (λ (b : Bool). Ok (b, next)) w), s)
+head_ends at n header next whole (Head other) text kept e h w s = (
+  Body (before_body next.config),
+  ap (λ (k : Header). after_header (header_line n k text)) (sym e)
+      ∙ ap after_header (h ∙ ap (λ (b : Bool). Ok (b, next)) w),
+  s,
+)
 head_ends at n header next whole (Body playing) text kept e h w s = absurd e
 
 pub body_refused : {F : Type 0} (at : F → ℕ → SymbolView) (n : ℕ) (kept : Kept F) (stage : Stage) (text : List ℕ) (fault : LineFault)

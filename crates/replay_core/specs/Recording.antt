@@ -44,6 +44,6 @@ recorded config moment [] journals = none_recorded journals false
 recorded config moment (one ∷ others) journals =
     if has_room config journals one.symbol
     then recorded_behind
-        (most_steps config one.symbol (journal_at journals one.symbol) (next_event moment one journals))
-        (recorded config moment others (with_event moment one journals))
+    (most_steps config one.symbol (journal_at journals one.symbol) (next_event moment one journals))
+    (recorded config moment others (with_event moment one journals))
     else none_recorded journals true

@@ -21,3 +21,6 @@ pub mod venue;
 pub use plain_floor::PlainFloor;
 pub use player::Player;
 pub use status::Status;
+
+#[cfg(test)]
+mod tests;

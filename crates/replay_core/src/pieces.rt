@@ -138,10 +138,10 @@ fn play_line<F: PlainFloor, K: Sink, L: Ledger>(
     requires { has_end part.now ≡ false }
     ensures ok { IfOk result (λ next. (place : Place) → IsAt F.at reader place
         → Goes F.at (seen (K.told out.old) steps.old) (seen (K.told out.new) steps.new)
-            (λ more. ahead place reader.held (part.now ++ 10 ∷ more)) next []) }
+        (λ more. ahead place reader.held (part.now ++ 10 ∷ more)) next []) }
     ensures err { IfErr result (λ status. (place : Place) → IsAt F.at reader place
         → Halts (seen (K.told out.old) steps.old) (seen (K.told out.new) steps.new)
-            (λ more. ahead place reader.held (part.now ++ 10 ∷ more)) status) }
+        (λ more. ahead place reader.held (part.now ++ 10 ∷ more)) status) }
     ensures size { IfOk result (λ next. size_of next ≡ size_of reader + length part.now + 1) }
     ensures later { K.faults out.old ≤ K.faults out.new }
     ensures write { result ≡ Err Status.WriteFault → Rose (K.faults out.old) (K.faults out.new) }
@@ -166,10 +166,10 @@ pub fn play_piece<F: PlainFloor, K: Sink, L: Ledger>(
 ) -> Result<Reader<F>, Status>
     ensures ok { IfOk result (λ next. (place : Place) → IsAt F.at reader place
         → Goes F.at (seen (K.told out.old) steps.old) (seen (K.told out.new) steps.new)
-            (λ more. ahead place reader.held (piece.now ++ more)) next []) }
+        (λ more. ahead place reader.held (piece.now ++ more)) next []) }
     ensures err { IfErr result (λ status. (place : Place) → IsAt F.at reader place
         → Halts (seen (K.told out.old) steps.old) (seen (K.told out.new) steps.new)
-            (λ more. ahead place reader.held (piece.now ++ more)) status) }
+        (λ more. ahead place reader.held (piece.now ++ more)) status) }
     ensures size { IfOk result (λ next. size_of next ≡ size_of reader + length piece.now) }
     ensures later { K.faults out.old ≤ K.faults out.new }
     ensures write { result ≡ Err Status.WriteFault → Rose (K.faults out.old) (K.faults out.new) }

@@ -67,7 +67,7 @@ fn open_desk(desks: &mut [Desk], number: u32)
     requires { number < length desks.old }
     ensures desk { (symbols : ℕ) (members : List Member) (other : Member) → AllZip (IsDeskOf symbols) desks.old members
         → AllZip (IsDeskOf symbols) desks.new
-            (slice_set members number (reconnected (unwrap_or (slice_get members number) other))) }
+        (slice_set members number (reconnected (unwrap_or (slice_get members number) other))) }
     ensures numbers { map (λ desk. desk.member) desks.new ≡ map (λ desk. desk.member) desks.old }
 {
     desks[number as usize].open();

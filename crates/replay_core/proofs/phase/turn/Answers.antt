@@ -12,13 +12,13 @@ returns-in-Err-clause-answer g c stage s =
 pub returns-in_ok-new-in-Head-clause-answer : goal.returns-in_ok-new-in-Head-clause-answer
 returns-in_ok-new-in-Head-clause-answer g c stage s =
     let x = head_ends g.F.Floor.at c.args.line c.in-Head.header c.line.new.self c.in-Ok.whole stage c.args.text.now c.in_ok-new-in-Head.field-0
-        (subst (λ (p : Phase _). IsAtStage g.F.Floor.at p stage) c.in-Head.is s) c.in-Ok.ensures.line c.if-whole.true c.in_ok-new-in-Head.ensures in
+    (subst (λ (p : Phase _). IsAtStage g.F.Floor.at p stage) c.in-Head.is s) c.in-Ok.ensures.line c.if-whole.true c.in_ok-new-in-Head.ensures in
     (x.0, x.1 ∙ ap (λ (t : List ℕ). Ok (x.0, t)) (sym c.requires.empty), x.2)
 
 pub returns-else-whole-clause-answer : goal.returns-else-whole-clause-answer
 returns-else-whole-clause-answer g c stage s =
     let x = head_goes_on g.F.Floor.at c.args.line c.in-Head.header c.line.new.self c.in-Ok.whole stage c.args.text.now
-        (subst (λ (p : Phase _). IsAtStage g.F.Floor.at p stage) c.in-Head.is s) c.in-Ok.ensures.line c.if-whole.false in
+    (subst (λ (p : Phase _). IsAtStage g.F.Floor.at p stage) c.in-Head.is s) c.in-Ok.ensures.line c.if-whole.false in
     (x.0, x.1 ∙ ap (λ (t : List ℕ). Ok (x.0, t)) (sym c.requires.empty), x.2)
 
 pub returns-in-Ok-line-clause-answer : goal.returns-in-Ok-line-clause-answer

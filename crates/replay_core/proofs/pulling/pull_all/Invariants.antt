@@ -13,7 +13,7 @@ invariant-loop-number g l = record {
   desks : (journals : List (List Event)) (members : List Member) → ShowsJournals g.F.Floor.at l.config l.initial.floor journals
       → AllZip (IsDeskOf (length l.config.symbols)) l.initial.desks members
       → AllZip (IsDeskOf (length l.config.symbols)) l.desks
-          (map (pulled l.config l.moment journals) (take l.number members) ++ drop l.number members);
+      (map (pulled l.config l.moment journals) (take l.number members) ++ drop l.number members);
   text : (journals : List (List Event)) (members : List Member) → ShowsJournals g.F.Floor.at l.config l.initial.floor journals
       → AllZip (IsDeskOf (length l.config.symbols)) l.initial.desks members
       → l.out.items ≡ l.initial.out.items ++ flat_map (pull_lines l.config l.moment journals) (take l.number members);

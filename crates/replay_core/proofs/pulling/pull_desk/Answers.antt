@@ -26,9 +26,9 @@ returns-clause-desk g c =
     let reports : ℕ → List Report = λ symbol. (g.F.Floor.at c.pull.new.floor symbol).reports in
     always c.push_frames.result _ (λ journals member shows x.
     let kept = shows_kept g.F.Floor.mark g.F.Floor.at g.F.Floor.step_limit g.F.PlainFloor.state
-        c.args.config.now _ c.args.floor.now c.pull.new.floor c.requires.plain c.in_ok-frames.ensures.waited journals shows in
+    c.args.config.now _ c.args.floor.now c.pull.new.floor c.requires.plain c.in_ok-frames.ensures.waited journals shows in
     let same = reports_shown g.F.Floor.mark g.F.Floor.at g.F.Floor.step_limit g.F.PlainFloor.state
-        c.args.config.now _ c.pull.new.floor c.requires.plain c.in_ok-frames.ensures.mark journals kept in
+    c.args.config.now _ c.pull.new.floor c.requires.plain c.in_ok-frames.ensures.mark journals kept in
     subst (λ (m : ℤ). IsDeskOf (length c.args.config.now.symbols) c.pull.new.self (pulled c.args.config.now m journals member)) e
     (desk_pulled c.args.config.now (to_z w64 (of_z w64 c.args.moment)) journals c.args.desk.now c.pull.new.self member reports x same
     c.in_ok-frames.ensures.member c.in_ok-frames.ensures.unread c.in_ok-frames.ensures.session c.in_ok-frames.ensures.cursors
@@ -40,15 +40,15 @@ returns-clause-text g c =
     let reports : ℕ → List Report = λ symbol. (g.F.Floor.at c.pull.new.floor symbol).reports in
     weaker c.push_frames.result _ _ (λ grew journals member shows x.
     let kept = shows_kept g.F.Floor.mark g.F.Floor.at g.F.Floor.step_limit g.F.PlainFloor.state
-        c.args.config.now _ c.args.floor.now c.pull.new.floor c.requires.plain c.in_ok-frames.ensures.waited journals shows in
+    c.args.config.now _ c.args.floor.now c.pull.new.floor c.requires.plain c.in_ok-frames.ensures.waited journals shows in
     let same = reports_shown g.F.Floor.mark g.F.Floor.at g.F.Floor.step_limit g.F.PlainFloor.state
-        c.args.config.now _ c.pull.new.floor c.requires.plain c.in_ok-frames.ensures.mark journals kept in
+    c.args.config.now _ c.pull.new.floor c.requires.plain c.in_ok-frames.ensures.mark journals kept in
     let sent = sends_same c.args.config.now (to_z w64 (of_z w64 c.args.moment)) c.args.desk.now member journals reports x same in
     let name : c.name_at-name.result.now ≡ name_at c.args.config.now.members member.number =
-        c.name_at-name.ensures ∙ ap (λ (names : List (List ℕ)). name_at names c.args.number) c.as_slice.ensures
-        ∙ ap (name_at c.args.config.now.members) (sym c.requires.member ∙ x.number) in
+    c.name_at-name.ensures ∙ ap (λ (names : List (List ℕ)). name_at names c.args.number) c.as_slice.ensures
+    ∙ ap (name_at c.args.config.now.members) (sym c.requires.member ∙ x.number) in
     let frames : c.as_slice-2.result.now ≡ (sent_to c.args.config.now (to_z w64 (of_z w64 c.args.moment)) journals member).turn.replies =
-        c.as_slice-2.ensures.value ∙ c.in_ok-frames.ensures.frames ∙ ap (λ (o : Outcome). o.turn.replies) sent in
+    c.as_slice-2.ensures.value ∙ c.in_ok-frames.ensures.frames ∙ ap (λ (o : Outcome). o.turn.replies) sent in
     subst (λ (m : ℤ). c.push_frames.new.out.items ≡ c.args.out.now.items ++ pull_lines c.args.config.now m journals member) e
     (grew ∙ ap (λ (n : List ℕ). c.args.out.now.items ++ frame_lines n c.as_slice-2.result.now) name
     ∙ ap (λ (f : List (List ℕ)). c.args.out.now.items ++ frame_lines (name_at c.args.config.now.members member.number) f) frames))

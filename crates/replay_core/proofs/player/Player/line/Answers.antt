@@ -15,7 +15,7 @@ pub returns-in-Err-work-clause-answer : goal.returns-in-Err-work-clause-answer
 returns-in-Err-work-clause-answer g c playing s =
     let t = subst (λ (k : Kept g.row.F.Denot). StandsFor g.F.Floor.at k playing) (sym c.self.view_is) s in
     let said : line_of playing.config c.args.text.now ≡ Ok c.in-Ok.read = subst (λ (k : Config). line_of k c.args.text.now ≡ Ok c.in-Ok.read) t.config
-        (line_said c.self.inside.config c.args.text.now c.in-Ok.read c.requires.short c.in-Ok.ensures.line) in
+    (line_said c.self.inside.config c.args.text.now c.in-Ok.read c.requires.short c.in-Ok.ensures.line) in
     rw c.refusal_at.ensures
     (work_refused c.args.line playing c.args.text.now c.in-Ok.read c.in-Err-work.refusal said (c.in-Err-work.ensures.refused playing s))
 
@@ -23,7 +23,7 @@ pub returns-in-Err-work-clause-steps : goal.returns-in-Err-work-clause-steps
 returns-in-Err-work-clause-steps g c playing s =
     let t = subst (λ (k : Kept g.row.F.Denot). StandsFor g.F.Floor.at k playing) (sym c.self.view_is) s in
     let said : line_of playing.config c.args.text.now ≡ Ok c.in-Ok.read = subst (λ (k : Config). line_of k c.args.text.now ≡ Ok c.in-Ok.read) t.config
-        (line_said c.self.inside.config c.args.text.now c.in-Ok.read c.requires.short c.in-Ok.ensures.line) in
+    (line_said c.self.inside.config c.args.text.now c.in-Ok.read c.requires.short c.in-Ok.ensures.line) in
     let most = play_steps c.args.line playing c.args.text.now c.in-Ok.read said in
     subst (λ (n : ℕ). c.work.new.steps ≤ c.args.steps.now + n) (sym most) (c.in-Err-work.ensures.steps playing s)
 
@@ -31,7 +31,7 @@ pub returns-in_err-pull-clause-steps : goal.returns-in_err-pull-clause-steps
 returns-in_err-pull-clause-steps g c playing s =
     let t = subst (λ (k : Kept g.row.F.Denot). StandsFor g.F.Floor.at k playing) (sym c.self.view_is) s in
     let said : line_of playing.config c.args.text.now ≡ Ok c.in-Ok.read = subst (λ (k : Config). line_of k c.args.text.now ≡ Ok c.in-Ok.read) t.config
-        (line_said c.self.inside.config c.args.text.now c.in-Ok.read c.requires.short c.in-Ok.ensures.line) in
+    (line_said c.self.inside.config c.args.text.now c.in-Ok.read c.requires.short c.in-Ok.ensures.line) in
     let most = play_steps c.args.line playing c.args.text.now c.in-Ok.read said in
     subst (λ (n : ℕ). c.work.new.steps ≤ c.args.steps.now + n) (sym most) (c.in-Ok-work.ensures.steps playing s)
 
@@ -39,7 +39,7 @@ pub returns-clause-answer : goal.returns-clause-answer
 returns-clause-answer g c playing s =
     let t = subst (λ (k : Kept g.row.F.Denot). StandsFor g.F.Floor.at k playing) (sym c.self.view_is) s in
     let said : line_of playing.config c.args.text.now ≡ Ok c.in-Ok.read = subst (λ (k : Config). line_of k c.args.text.now ≡ Ok c.in-Ok.read) t.config
-        (line_said c.self.inside.config c.args.text.now c.in-Ok.read c.requires.short c.in-Ok.ensures.line) in
+    (line_said c.self.inside.config c.args.text.now c.in-Ok.read c.requires.short c.in-Ok.ensures.line) in
     let done = c.in-Ok-work.ensures.done playing s in
     line_done g.F.Floor.at c.args.line playing c.args.text.now c.in-Ok.read c.in-Ok-work.player c.in_ok-pull.field-0 c.args.out.now.items
     c.work.new.out.items c.pull.new.out.items said c.requires.empty done
@@ -49,6 +49,6 @@ pub returns-clause-steps : goal.returns-clause-steps
 returns-clause-steps g c playing s =
     let t = subst (λ (k : Kept g.row.F.Denot). StandsFor g.F.Floor.at k playing) (sym c.self.view_is) s in
     let said : line_of playing.config c.args.text.now ≡ Ok c.in-Ok.read = subst (λ (k : Config). line_of k c.args.text.now ≡ Ok c.in-Ok.read) t.config
-        (line_said c.self.inside.config c.args.text.now c.in-Ok.read c.requires.short c.in-Ok.ensures.line) in
+    (line_said c.self.inside.config c.args.text.now c.in-Ok.read c.requires.short c.in-Ok.ensures.line) in
     let most = play_steps c.args.line playing c.args.text.now c.in-Ok.read said in
     subst (λ (n : ℕ). c.work.new.steps ≤ c.args.steps.now + n) (sym most) (c.in-Ok-work.ensures.steps playing s)

@@ -24,7 +24,7 @@ returns g c playing s text =
     let e : to_z w64 (of_z w64 c.self.inside.moment) ≡ c.self.inside.moment = search rules in
     let t = subst (λ (k : Kept g.row.F.Denot). StandsFor g.F.Floor.at k playing) (sym c.self.view_is) s in
     let u = subst (λ (ds : List DeskView). StandsFor g.F.Floor.at (kept_of c.self.inside.config c.self.inside.floor ds c.self.inside.moment) playing)
-        (sym c.as_mut_slice.ensures.value) t in
+    (sym c.as_mut_slice.ensures.value) t in
     let same = with_items_is c.self.inside.desks c.open_desk.new.desks (omega arith) in
     subst (λ (ds : List DeskView). IsDone g.F.Floor.at (kept_of c.self.inside.config c.self.inside.floor ds (to_z w64 (of_z w64 c.self.inside.moment)))
     (work_of_open playing c.args.number) text text) (sym same)

@@ -13,7 +13,7 @@ returns g c playing s =
     let e : to_z w64 (of_z w64 c.args.moment) ≡ c.args.moment = search rules in
     let t = subst (λ (k : Kept g.row.F.Denot). StandsFor g.F.Floor.at k playing) (sym c.self.view_is) s in
     let u = subst (λ (ds : List DeskView). StandsFor g.F.Floor.at (kept_of c.self.inside.config c.self.inside.floor ds c.self.inside.moment) playing)
-        (sym c.as_mut_slice.ensures.value) t in
+    (sym c.as_mut_slice.ensures.value) t in
     let same = with_items_is c.self.inside.desks c.tick_all.new.desks (omega arith) in
     subst (λ (ds : List DeskView). IsDone g.F.Floor.at (kept_of c.self.inside.config c.self.inside.floor ds (to_z w64 (of_z w64 c.args.moment)))
     (work_of_moment playing c.args.moment) c.args.out.now.items c.tick_all.new.out.items) (sym same)
