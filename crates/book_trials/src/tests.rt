@@ -148,6 +148,13 @@ fn compare_days<L: Ledger>(rt: &impl Abort, alloc: Global, blank: Blank) -> Resu
     Ok(())
 }
 
+/// One of the two ticks.
+fn tick_of(seed: u64) -> u32
+    ensures { IsTick result }
+{
+    if seed % 3 == 0 { 10 } else { 2 }
+}
+
 fn compare_random<L: Ledger>(
     rt: &impl Abort,
     alloc: Global,
@@ -161,7 +168,7 @@ fn compare_random<L: Ledger>(
 {
     let mut steps = Steps::<L>::start(blank);
     for seed in 0..histories {
-        let tick = if seed % 3 == 0 { 10 } else { 2 };
+        let tick = tick_of(seed);
         compare(
             rt,
             alloc,
@@ -181,7 +188,7 @@ fn worked_days_are_reported_as_the_rules_say(rt: HostRuntime) -> Result<(), Fail
 
 #[test]
 fn random_histories_are_reported_as_the_rules_say(rt: HostRuntime) -> Result<(), Fail> {
-    compare_random::<Brand>(&rt, rt.alloc(), Blank::new(1), 60, 200)
+    compare_random::<Brand>(&rt, rt.alloc(), Blank::new(1), 500, 300)
 }
 
 /// A quote of the first market.

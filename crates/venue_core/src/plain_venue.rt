@@ -68,6 +68,7 @@ impl<V: Held + Drop> PlainVenue<V> {
     }
 }
 
+// Submits to the symbol's book.
 fn submit_to<V: Held, L: Ledger>(
     books: &mut Vec<V>,
     symbol: u32,

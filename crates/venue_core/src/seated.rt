@@ -25,6 +25,7 @@ pub struct Seated<'a, R: Wait, V: Held> {
     ghost fit: { AreSeatsOf venue.now seats },
 }
 
+// Submits at the symbol's gate, through the symbol's seat.
 fn submit_at<V: Held, R: Wait, L: Ledger>(
     rt: &R,
     venue: &Venue<V>,
@@ -46,6 +47,7 @@ fn submit_at<V: Held, R: Wait, L: Ledger>(
     gate.submit(rt, seat, feed, moment, command, steps)
 }
 
+// Looks at the symbol's gate, through the symbol's seat.
 fn look_at<V: Held, R: Wait>(
     rt: &R,
     venue: &Venue<V>,
