@@ -196,8 +196,8 @@ impl<E: Engine + Drop> BookOver<E> {
         self.alloc
     }
 
-    /// The markets and the tick can be read from the setting.
-    pub(crate) fn parts_of_setting(&self)
+    /// That the markets and the tick can be read from the setting. This does nothing when it runs.
+    pub fn parts_of_setting(&self)
         ensures markets { markets_in (setting_of self.now.markets self.now.tick) ≡ self.now.markets }
         ensures tick { tick_in (setting_of self.now.markets self.now.tick) ≡ self.now.tick }
     {
