@@ -32,7 +32,8 @@ use Rattle.market_laws.specs.Sound.{AreDifferent, IsNew, AllDiffer, IsHeld, IsLi
 use Rattle.market_laws.specs.ListLaws.{all_filter}
 use Rattle.market_laws.proofs.Differing.{different_back, takes_within}
 use Rattle.market_laws.proofs.Backing.{length_after_all, held_after, still_held, live_unfilled, taker_trades, others_rest}
-use Rattle.market_laws.proofs.Naming.{get_kept, get_last, each_more, quantity_most}
+use Rattle.market_laws.proofs.Naming.{get_kept, get_last, each_more}
+use Rattle.market_laws.specs.QuantityLaws.{quantity_most}
 use Rattle.market_laws.proofs.Sweeping.{sound_after, walk_fits, others_live_after, differ_after, new_after, new_from, turned, recheck_sound, reprice_sound}
 
 -- ---- one walk of an order that is not in the book

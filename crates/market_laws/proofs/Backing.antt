@@ -19,7 +19,7 @@ use Rattle.eager_meaning.specs.Walk.{total_of}
 use Rattle.eager_meaning.specs.Matching.{takes_of, fill_of, fills_of, row_after, shares_of, unfilled}
 use Rattle.market_laws.specs.Equalities.{some_is}
 use Rattle.market_laws.specs.Sound.{AreDifferent, IsNew, AllDiffer, IsHeld, IsLiveRow}
-use Rattle.market_laws.proofs.Siding.{changed_next}
+use Rattle.market_laws.specs.ChangedLaws.{changed_next}
 use Rattle.market_laws.specs.WalkLaws.{takes_all}
 use Rattle.market_laws.proofs.Differing.{IsSameOrDiffers, takes_differ, IsWithin, takes_within, taken_by, taken_cons, none_taken, Fits, shares_found}
 

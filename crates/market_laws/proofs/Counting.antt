@@ -33,7 +33,7 @@ use Rattle.eager_meaning.specs.Step.{on_status, outcome_of}
 use Rattle.market_laws.specs.Equalities.{some_is}
 use Rattle.market_laws.specs.Fewer.{no_more_rows}
 use Rattle.market_laws.proofs.Admitting.{enter_counts, quote_counts}
-use Rattle.market_laws.proofs.Living.{IsLive, live_found}
+use Rattle.market_laws.specs.LiveLaws.{IsLive, live_found}
 use Rattle.market_laws.proofs.Replacing.{replace_counts}
 
 pub length_map : (f : Priced → Priced) (rows : List Priced) → length (map f rows) ≡ length rows

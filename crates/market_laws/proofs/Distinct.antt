@@ -11,7 +11,7 @@ use Rattle.venue_words.specs.ListLaws.{all_weaken, all_append}
 use Rattle.eager_meaning.specs.declared.order.Order.{Order}
 use Rattle.eager_meaning.specs.Orders.{changed_at, is_named, order_named, is_used}
 use Rattle.market_laws.specs.Names.{Name, name_of}
-use Rattle.market_laws.proofs.Siding.{changed_next}
+use Rattle.market_laws.specs.ChangedLaws.{changed_next}
 
 -- ---- lists without a double
 

@@ -30,7 +30,7 @@ use Rattle.eager_meaning.specs.Changing.{cancel, on_cancel, replaced_order, only
 use Rattle.eager_meaning.specs.Step.{Run, runs, step, view_now, on_status, outcome_of, reports_from}
 use Rattle.market_laws.specs.Ids.{IsShort, EachGiven, EachTold, EachHeld, IdsAreShort}
 use Rattle.market_laws.specs.ListLaws.{all_flat}
-use Rattle.market_laws.proofs.Siding.{changed_next}
+use Rattle.market_laws.specs.ChangedLaws.{changed_next}
 
 -- ---- lists
 

@@ -24,8 +24,10 @@ use Rattle.market_laws.specs.Sound.{AreDifferent, IsNew, AllDiffer, IsLiveRow, I
 use Rattle.market_laws.specs.ListLaws.{all_filter, all_map}
 use Rattle.market_laws.proofs.Differing.{different_back, KeepsNames, named_apart, IsSameOrDiffers, each_same_or_differs}
 use Rattle.market_laws.proofs.Backing.{length_changed}
-use Rattle.market_laws.proofs.Living.{IsLive, live_found}
-use Rattle.market_laws.proofs.Naming.{get_changed, get_other, each_changed, find_passes, live_member, quantity_most, quantity_above}
+use Rattle.market_laws.specs.LiveLaws.{IsLive, live_found, live_member}
+use Rattle.market_laws.specs.ChangedLaws.{get_changed, get_other}
+use Rattle.market_laws.proofs.Naming.{each_changed, find_passes}
+use Rattle.market_laws.specs.QuantityLaws.{quantity_most, quantity_above}
 use Rattle.market_laws.proofs.Admitting.{RowsAgree, IsSoundArrival, enter_agrees, enter_counts, later, filtered}
 
 joined_differ : (xs ys : List Priced) → AllDiffer xs → AllDiffer ys → AllByRecursion (λ x. IsNew x.row ys) xs → AllDiffer (xs ++ ys)

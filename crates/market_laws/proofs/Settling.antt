@@ -42,7 +42,8 @@ use Rattle.market_laws.proofs.Siding.{side_changed, sides_after_all, side_kept, 
 use Rattle.market_laws.proofs.Meeting.{IsFairFill, stays_placed, fills_fair, left_placed, recheck_fair, same_option, reprice_places, same_sides}
 use Rattle.market_laws.proofs.Telling.{shares_told, IsNoTrade, none_told, none_priced, left_no_trade, trades_even, trades_priced}
 use Rattle.market_laws.proofs.Valuing.{each_kept, worth_after_all, worth_next}
-use Rattle.market_laws.proofs.Living.{live_found, same_side, key_side}
+use Rattle.market_laws.specs.LiveLaws.{live_found}
+use Rattle.market_laws.proofs.Living.{same_side, key_side}
 
 -- an outcome that keeps the rows in place, and tells as many shares bought as sold, at prices within the quote
 pub record IsFair (outcome : Outcome) : Type 0 where

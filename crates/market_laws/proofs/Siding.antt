@@ -1,18 +1,12 @@
 -- An order's side never changes.
-use Rattle.std.proofs.Common.{◌≡◌, ℕ, zero, suc, List, [], ◌∷◌, ◌++◌, length, Some, None, refl, ap, ◌∙◌}
-use Rattle.std.specs.Prelude.{slice_get, slice_set}
-use Rattle.std.specs.Option.{option_map_or}
+use Rattle.std.proofs.Common.{◌≡◌, ℕ, zero, suc, List, [], ◌∷◌, ◌++◌, length, Some, refl, ap, ◌∙◌}
 use Rattle.venue_words.specs.declared.price.Side.{Side}
 use Rattle.eager_meaning.specs.declared.order.Order.{Order}
 use Rattle.eager_meaning.specs.declared.trade.Fill.{Fill}
 use Rattle.eager_meaning.specs.Orders.{changed_at}
 use Rattle.eager_meaning.specs.Trades.{order_after, orders_after, orders_after_all}
+use Rattle.market_laws.specs.ChangedLaws.{changed_next}
 use Rattle.market_laws.specs.Placed.{side_at}
-
-pub changed_next : {T : Type 0} (f : T → T) (k : ℕ) (x : T) (xs : List T) → changed_at f (suc k) (x ∷ xs) ≡ x ∷ changed_at f k xs
-changed_next f k x xs =
-    elim (slice_get xs k) as (λ found. option_map_or (λ y. slice_set (x ∷ xs) (suc k) (f y)) found (x ∷ xs) ≡ x ∷ option_map_or (λ y. slice_set xs k (f y)) found xs)
-    [ None ↦ refl | Some y ↦ refl ]
 
 pub side_changed : (f : Order → Order) → ((order : Order) → (f order).side ≡ order.side) → (k : ℕ) (orders : List Order) (j : ℕ) → side_at (changed_at f k orders) j ≡ side_at orders j
 side_changed f h k [] j = refl

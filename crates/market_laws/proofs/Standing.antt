@@ -41,8 +41,9 @@ use Rattle.market_laws.proofs.Agreeing.{step_sound, no_order}
 use Rattle.market_laws.proofs.Backing.{length_after_all, length_changed}
 use Rattle.market_laws.proofs.Differing.{IsSameOrDiffers}
 use Rattle.market_laws.proofs.Enduring.{get_set, get_set_other, length_set, get_either, IsAsEntered, AreAsEntered, with_parts, entered_repriced, entered_rechecked, entered_entered, MayHaveRow, HasEntries, stands}
-use Rattle.market_laws.proofs.Living.{live_found}
-use Rattle.market_laws.proofs.Naming.{get_kept, get_last, get_other}
+use Rattle.market_laws.specs.LiveLaws.{live_found}
+use Rattle.market_laws.proofs.Naming.{get_kept, get_last}
+use Rattle.market_laws.specs.ChangedLaws.{get_other}
 use Rattle.market_laws.proofs.Numbering.{kept_by_all, numbered_from_none}
 use Rattle.market_laws.proofs.Owning.{HasRowOf, HaveRows, row_mapped, turned_rows, rechecked_rows, repriced_rows, entered_rows}
 use Rattle.market_laws.proofs.Replacing.{IsAmong, among, rest_differ, replace_arrival}

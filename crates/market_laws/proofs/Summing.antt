@@ -37,7 +37,7 @@ use Rattle.eager_meaning.specs.Step.{Run, runs, step, view_now, on_status, outco
 use Rattle.market_laws.specs.Equalities.{some_is}
 use Rattle.market_laws.specs.Orders.{shares_of_order, shares_told_of, CumIsSumOfTrades}
 use Rattle.market_laws.specs.ListLaws.{all_found, all_flat}
-use Rattle.market_laws.proofs.Siding.{changed_next}
+use Rattle.market_laws.specs.ChangedLaws.{changed_next}
 use Rattle.market_laws.proofs.Numbering.{kept_by_all, numbered_from_none}
 
 -- the CumQty of the orders of a New

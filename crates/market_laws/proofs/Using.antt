@@ -33,8 +33,7 @@ use Rattle.eager_meaning.specs.Step.{Run, runs, step, view_now, on_status, outco
 use Rattle.market_laws.specs.ListLaws.{all_found, all_flat}
 use Rattle.market_laws.specs.Names.{Name, name_of, AreNamed, OrdersAreNamed, used_by, names_used_by, UsedNamesAreTold}
 use Rattle.market_laws.proofs.Distinct.{AreDistinct, distinct_append, put_at, distinct_put, all_put, name_with, map_put, map_kept, all_get, one_place, IsUsed, unused_differs, used_differ, still_used, last_used, names, name_at, found_by_name}
-use Rattle.market_laws.proofs.Living.{live_found}
-use Rattle.market_laws.proofs.Naming.{live_member}
+use Rattle.market_laws.specs.LiveLaws.{live_found, live_member}
 use Rattle.market_laws.proofs.Replying.{view_id}
 
 -- ---- names that stay apart

@@ -12,7 +12,7 @@ use Rattle.eager_meaning.specs.Trades.{order_after, orders_after, orders_after_a
 use Rattle.market_laws.specs.Equalities.{some_is}
 use Rattle.market_laws.specs.Placed.{AreWorthAtMost}
 use Rattle.market_laws.proofs.Meeting.{IsFairFill}
-use Rattle.market_laws.proofs.Siding.{changed_next}
+use Rattle.market_laws.specs.ChangedLaws.{changed_next}
 
 -- what a change keeps of each order, it keeps of all
 pub each_kept : (P : Order → Type 0) (f : Order → Order) → ((x : Order) → P x → P (f x)) → (j : ℕ) (orders : List Order) → ((k : ℕ) (x : Order) → slice_get orders k ≡ Some x → P x) → (k : ℕ) (x : Order) → slice_get (changed_at f j orders) k ≡ Some x → P x

@@ -1,14 +1,17 @@
 pub mod Apart
+pub mod ChangedLaws
 pub mod Equalities
 pub mod Fewer
 pub mod Fitting
 pub mod Histories
 pub mod Ids
 pub mod ListLaws
+pub mod LiveLaws
 pub mod Names
 pub mod Orders
 pub mod Pairwise
 pub mod Placed
+pub mod QuantityLaws
 pub mod Replies
 pub mod Reports
 pub mod Sound

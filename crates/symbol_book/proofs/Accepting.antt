@@ -10,7 +10,7 @@ use Rattle.venue_words.specs.Conditions.{longest_id}
 use Rattle.eager_meaning.specs.declared.known.Known.{Known}
 use Rattle.eager_meaning.specs.declared.order.Order.{Order}
 use Rattle.eager_meaning.specs.Entering.{accepted_order}
-use Rattle.market_laws.proofs.Naming.{quantity_most}
+use Rattle.market_laws.specs.QuantityLaws.{quantity_most}
 use Rattle.symbol_book.specs.Orders.{IsSmall}
 use Rattle.eager_meaning.specs.Terms.{quantity_in, quantity_of, within, whole_quotient}
 use Rattle.eager_meaning.specs.declared.amount.TheConstants.{ONE_AMOUNT}
@@ -44,6 +44,9 @@ first_holds false m rest p = refl
 pub is_fresh : (member : ℕ) (id : List ℕ) (terms : Terms) (known : Known) → verdict (New member id terms) known ≡ None → known.used ≡ false
 unfolding verdict
 is_fresh member id terms known p = first_holds _ _ _ p
+
+-- what a New that breaks no rule has
+pub ruleset unbroken = (has_shares, is_fresh)
 
 -- an accepted order is small
 small_order : (tick event member : ℕ) (id : List ℕ) (terms : Terms) → length id ≤ longest_id → IsSmall (accepted_order tick event member id terms)

@@ -20,7 +20,7 @@ use Rattle.eager_meaning.specs.State.{State, own_rows, other_rows}
 use Rattle.eager_meaning.specs.Step.{IsNumbered, runs}
 use Rattle.market_laws.specs.Fitting.{TradeFits, FillsFit, QuoteTradesFit, NewTradesFit, ReplaceTradesFit, arrival_fills}
 use Rattle.market_laws.specs.Ids.{short_within_limits}
-use Rattle.market_laws.proofs.Naming.{quantity_above}
+use Rattle.market_laws.specs.QuantityLaws.{quantity_above}
 use Rattle.match_core.specs.BothSides.{own_of, others_of}
 use Rattle.symbol_book.specs.Commands.{takes_command}
 use Rattle.symbol_book.specs.Fitting.{CanWork, NewFits, ReplaceFits}

@@ -25,9 +25,8 @@ use Rattle.eager_meaning.specs.Quoting.{same_best, with_quote, requote, on_quote
 use Rattle.eager_meaning.specs.State.{State, Outcome, resting, with_rows, with_no_notice}
 use Rattle.eager_meaning.specs.Step.{on_status, outcome_of}
 use Rattle.eager_meaning.specs.Trades.{order_after, orders_after, orders_after_all}
-use Rattle.market_laws.proofs.Living.{live_found}
-use Rattle.market_laws.proofs.Naming.{get_changed, get_other, live_member}
-use Rattle.market_laws.proofs.Siding.{changed_next}
+use Rattle.market_laws.specs.LiveLaws.{live_found, live_member}
+use Rattle.market_laws.specs.ChangedLaws.{get_changed, get_other, changed_next}
 use Rattle.symbol_book.specs.Changes.{broken_by, with_id, ids_after}
 use Rattle.symbol_book.specs.Ids.{UsedId, NameOrders, used_of, entry_of}
 use Rattle.symbol_book.proofs.Rules.{new_fresh, replace_fresh}

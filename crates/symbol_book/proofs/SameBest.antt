@@ -40,3 +40,6 @@ differ_when_not x y d =
           absurd (d (same_parts x y bid offer))
       | false ↦ λ e. refl
     ]) refl
+
+-- what a test of two national quotes says
+pub ruleset best_tests = (same_when_equal, differ_when_not)

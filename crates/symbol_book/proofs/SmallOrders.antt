@@ -10,7 +10,7 @@ use Rattle.eager_meaning.specs.declared.order.Order.{Order}
 use Rattle.eager_meaning.specs.Changing.{replaced_order}
 use Rattle.eager_meaning.specs.Orders.{changed_at}
 use Rattle.eager_meaning.specs.Terms.{quantity_of}
-use Rattle.market_laws.proofs.Naming.{quantity_most}
+use Rattle.market_laws.specs.QuantityLaws.{quantity_most}
 use Rattle.symbol_book.specs.Orders.{IsSmall}
 
 -- the sum of the prices after a trade at a price of 32 bits

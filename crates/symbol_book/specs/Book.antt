@@ -28,13 +28,17 @@ pub record BookView : Type 0 where
   pub ready : Option (Option Key)
 
 -- what a book keeps beside its state: the rows with which orders entered, and which orders the ids name
-pub record KeepsOrders (entered : List (Option Row)) (orders : List Order) (rows : List Priced) (entries : List UsedId) : Type 0 where
+pub record KeepsOrders
+    (entered : List (Option Row)) (orders : List Order) (rows : List Priced) (entries : List UsedId) : Type 0 where
   pub small : All IsSmall orders
   pub entered_rows : AreEntered entered orders rows
   pub named : NameOrders entries orders
 
 -- the parts of a book are those of the runs of its journal
-pub record IsKept (tick limit : ℕ) (markets : List Best) (buys sells : List Priced) (best : Best) (latest : ℕ) (orders : List Order) (entered : List (Option Row)) (ids : IdList) (log : Log) (journal : List Event) : Type 0 where
+pub record IsKept (tick limit : ℕ)
+    (markets : List Best) (buys sells : List Priced) (best : Best) (latest : ℕ)
+    (orders : List Order) (entered : List (Option Row)) (ids : IdList)
+    (log : Log) (journal : List Event) : Type 0 where
   pub ticks : IsTick tick
   pub limits : limit ≤ most_events
   pub state : (runs (length markets) tick journal).state ≡ state_of markets buys sells orders (used_of ids.entries)

@@ -23,7 +23,8 @@ IsNumber member id orders named (Some number) = IsNumberOf member id orders name
 
 -- the row with which the order with this number entered, or none where it has no shares left or may not rest
 pub record IsLiveRow (orders : List Order) (entered : List (Option Row)) (number : ℕ) (row : Option Row) : Type 0 where
-  pub live : (order : Order) → slice_get orders number ≡ Some order → order.cum < order.quantity → slice_get entered number ≡ Some row
+  pub live : (order : Order) → slice_get orders number ≡ Some order → order.cum < order.quantity
+      → slice_get entered number ≡ Some row
   pub filled : (order : Order) → slice_get orders number ≡ Some order → order.quantity ≤ order.cum → row ≡ None
 
 -- a live order by its number and the row with which it entered

@@ -36,13 +36,18 @@ ReplaceFits tick event member id terms live best buys sells orders =
 abbrev pub CanWork : ℕ → ℕ → Command → State → Type 0
 CanWork tick event (Quote market bid offer) s =
     (market < length s.markets)
-    × HaveLeft (requoted_rows event (best_of (slice_set s.markets market (record { bid = bid; offer = offer }))) s.buys s.sells).fills s.orders
+    × HaveLeft
+    (requoted_rows event (best_of (slice_set s.markets market (record { bid = bid; offer = offer }))) s.buys s.sells).fills
+    s.orders
 CanWork tick event (New member id terms) s =
     (length id ≤ longest_id)
-    × (broken_by tick member id (New member id terms) s None ≡ None → NewFits tick event member id terms (best_of s.markets) s.buys s.sells s.orders)
+    × (broken_by tick member id (New member id terms) s None ≡ None
+    → NewFits tick event member id terms (best_of s.markets) s.buys s.sells s.orders)
 CanWork tick event (Cancel member id orig) s = Unit {0}
 CanWork tick event (Replace member id orig terms) s =
     (length id ≤ longest_id)
-    × ((live : Live) → live_named member orig s.orders (resting s) ≡ Some live → broken_by tick member id (Replace member id orig terms) s (Some live) ≡ None
-    → (live.order.cum < quantity_of terms) × ReplaceFits tick event member id terms live (best_of s.markets) s.buys s.sells s.orders)
+    × ((live : Live) → live_named member orig s.orders (resting s) ≡ Some live
+    → broken_by tick member id (Replace member id orig terms) s (Some live) ≡ None
+    → (live.order.cum < quantity_of terms)
+    × ReplaceFits tick event member id terms live (best_of s.markets) s.buys s.sells s.orders)
 CanWork tick event (Status member id side) s = Unit {0}

@@ -18,7 +18,8 @@ more_reports tick run (event ∷ events) =
     let first : List Report = reports_from 1 event (outcome_of tick event.number event.command run.state).notices in
     (first ++ later.0, later.1 ∙ append_assoc run.reports first later.0)
 
-pub reports_grow : (setting : ℕ) (before after : List Event) → StartsWith (reports_at setting (before ++ after)) (reports_at setting before)
+pub reports_grow : (setting : ℕ) (before after : List Event)
+    → StartsWith (reports_at setting (before ++ after)) (reports_at setting before)
 unfolding runs
 reports_grow setting before after =
     let later = more_reports (tick_in setting) (runs (markets_in setting) (tick_in setting) before) after in

@@ -1,5 +1,6 @@
 -- The ids that members used up, each with its order, and the orders that they name.
-use Rattle.std.specs.Prelude.{◌≡◌, ℕ, ◌&&◌, ◌==◌, if◌then◌else◌, List, map, find, slice_get, Option, Some, None, option_map, option_and_then}
+use Rattle.std.specs.Prelude.{◌≡◌, ℕ, ◌&&◌, ◌==◌, if◌then◌else◌, List, map, find, slice_get}
+use Rattle.std.specs.Prelude.{Option, Some, None, option_map, option_and_then}
 use Rattle.std.specs.Str.{bytes_eq}
 use Rattle.eager_meaning.specs.declared.order.Order.{Order}
 use Rattle.eager_meaning.specs.Orders.{is_named}
@@ -25,7 +26,8 @@ entry_of member id entries = find (λ e. (e.member == member) && bytes_eq e.id i
 
 -- the present id of each order has an entry with the order's number
 pub record NameOrders (entries : List UsedId) (orders : List Order) : Type 0 where
-  pub each : (k : ℕ) (order : Order) → slice_get orders k ≡ Some order → option_map (λ e. e.order) (entry_of order.member order.id entries) ≡ Some k
+  pub each : (k : ℕ) (order : Order) → slice_get orders k ≡ Some order
+      → option_map (λ e. e.order) (entry_of order.member order.id entries) ≡ Some k
 
 -- an order with its number, where the id names it at present
 abbrev pub if_named : ℕ → List ℕ → ℕ → Order → Option (ℕ × Order)

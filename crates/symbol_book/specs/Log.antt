@@ -12,5 +12,6 @@ pub record Log : Type 0 where
   pub buffers : ℕ
 
 -- the notices were reported from one place on up to another: whatever is reported next continues them
-pub record Reports (event : Event) (before : List Report) (place : ℕ) (notices : List Notice) (after : List Report) (next : ℕ) : Type 0 where
+pub record Reports (event : Event)
+    (before : List Report) (place : ℕ) (notices : List Notice) (after : List Report) (next : ℕ) : Type 0 where
   pub all : (rest : List Notice) → after ++ reports_from next event rest ≡ before ++ reports_from place event (notices ++ rest)

@@ -9,4 +9,5 @@ use Rattle.market_laws.specs.Standing.{row_left}
 -- for each order the row with which it entered last, or none where it may not rest: what is left of it is the order's row
 pub record AreEntered (entered : List (Option Row)) (orders : List Order) (rows : List Priced) : Type 0 where
   pub count : length entered ≡ length orders
-  pub each : (k : ℕ) (order : Order) (entry : Option Row) → slice_get orders k ≡ Some order → slice_get entered k ≡ Some entry → option_map (λ x. x.row) (row_of_order k rows) ≡ row_left order entry
+  pub each : (k : ℕ) (order : Order) (entry : Option Row) → slice_get orders k ≡ Some order
+      → slice_get entered k ≡ Some entry → option_map (λ x. x.row) (row_of_order k rows) ≡ row_left order entry

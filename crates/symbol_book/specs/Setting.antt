@@ -21,4 +21,5 @@ reports_at setting journal = (runs (markets_in setting) (tick_in setting) journa
 
 -- the most steps of an event over a journal at a setting
 abbrev pub steps_at : ℕ → List Event → Event → ℕ
-steps_at setting journal event = bound (tick_in setting) (runs (markets_in setting) (tick_in setting) journal).state event.number event.command
+steps_at setting journal event =
+    bound (tick_in setting) (runs (markets_in setting) (tick_in setting) journal).state event.number event.command

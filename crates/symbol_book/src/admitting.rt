@@ -1,5 +1,6 @@
 //! New orders.
-ghost use Rattle.std.specs.Prelude.{◌≡◌, ℕ, ◌+◌, ◌*◌, ◌^◌, ◌<◌, ◌≤◌, ◌++◌, ◌∷◌, [], List, Some, None, All, false, length, vec_len};
+ghost use Rattle.std.specs.Prelude.{◌≡◌, ℕ, ◌+◌, ◌*◌, ◌^◌, ◌<◌, ◌≤◌, ◌++◌, ◌∷◌, [], List, Some, None, All, false};
+ghost use Rattle.std.specs.Prelude.{length, vec_len};
 ghost use Rattle.std.specs.Vec.{vec_capacity};
 ghost use Rattle.venue_words.specs.Best.{best_of};
 ghost use Rattle.venue_words.specs.Conditions.{IsTick, longest_id};
@@ -141,7 +142,7 @@ fn accept<E: Engine, L: Ledger>(
 }
 
 /// The first rule that a New breaks, or none.
-#[tactic(auto, unfolding(eager_meaning::specs::Orders::known_of), using(crate::proofs::Accepting::has_shares, crate::proofs::Accepting::is_fresh))]
+#[tactic(auto, unfolding(eager_meaning::specs::Orders::known_of), using(crate::proofs::Accepting::unbroken))]
 fn rule_of_new(
     tick: u32,
     ids: &UsedIds,

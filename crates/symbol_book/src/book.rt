@@ -67,7 +67,8 @@ impl<E: Engine + Drop> Model for BookOver<E> {
 }
 
 impl<E: Engine + Drop> BookOver<E> {
-    ghost use Rattle.std.specs.Prelude.{◌≡◌, ℕ, ◌+◌, ◌<◌, ◌≤◌, ◌++◌, ◌∷◌, [], Some, None, true, length, slice_get, OnOk, IfOk, IfErr};
+    ghost use Rattle.std.specs.Prelude.{◌≡◌, ℕ, ◌+◌, ◌<◌, ◌≤◌, ◌++◌, ◌∷◌, [], Some, None, true, length, slice_get};
+    ghost use Rattle.std.specs.Prelude.{OnOk, IfOk, IfErr};
     ghost use Rattle.venue_words.specs.Conditions.{IsTick, most_events};
     ghost use Rattle.venue_words.specs.Journals.{IfFull};
     ghost use Rattle.venue_words.specs.declared.price.Side.TheVariants.{Buy, Sell};

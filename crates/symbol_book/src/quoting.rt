@@ -54,7 +54,7 @@ fn requote<E: Engine, L: Ledger>(
 }
 
 /// A quote of one market.
-#[tactic(auto, unfolding(eager_meaning::specs::Quoting::on_quote), using(crate::proofs::SameBest::same_when_equal, crate::proofs::SameBest::differ_when_not))]
+#[tactic(auto, unfolding(eager_meaning::specs::Quoting::on_quote), using(crate::proofs::SameBest::best_tests))]
 pub fn on_quote<E: Engine, L: Ledger>(
     markets: &mut Markets,
     engine: &mut E,

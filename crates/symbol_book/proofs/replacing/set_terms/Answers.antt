@@ -1,6 +1,6 @@
 use Rattle.std.proofs.Common.{arith}
 use Rattle.std.proofs.lemmas.List.Elements.{All-set}
-use Rattle.market_laws.proofs.Naming.{quantity_most}
+use Rattle.market_laws.specs.QuantityLaws.{quantity_most}
 use Rattle.symbol_book.specs.Orders.{IsSmall}
 use Rattle.symbol_book.proofs.LiveRows.{get_at}
 use Rattle.symbol_book.proofs.SmallOrders.{at_place}
