@@ -1,26 +1,12 @@
 #!/bin/sh
-# Times a book and measures its memory: many orders that rest in three peg groups, and then as many quotes. It builds a
-# scratch program in a temporary folder over copies of the crates below, and is no part of the gate.
-# Usage: bench/book.sh [ORDERS QUOTES]
-set -e
-top=$(cd "$(dirname "$0")/.." && pwd)
-orders=${1:-100000}
-quotes=${2:-100000}
-work=$(mktemp -d)
-trap 'rm -rf "$work"' EXIT
-mkdir -p "$work/crates"
-crates="venue_words eager_meaning market_laws best_prices peg_price min_quantity move_history limit_tree peg_groups match_core symbol_book"
-for crate in $crates; do
-    cp -r "$top/crates/$crate" "$work/crates/$crate"
-    rm -rf "$work/crates/$crate/out"
-    grep "^$crate:" "$top/crates.txt" >> "$work/crates.txt"
-done
-cd "$work"
-rt new crates/book_load start_io > /dev/null
-rm -rf crates/book_load/proofs crates/book_load/specs crates/book_load/stdin crates/book_load/stdout
-rm -f crates/book_load/src/*
-echo 'book_load: venue_words match_core symbol_book' >> crates.txt
-cat > crates/book_load/src/main.rt <<'END'
+# Times a book and measures its memory: orders that rest in three peg groups, quotes over them, and pairs of orders that trade at
+# once. It builds a scratch program in a temporary folder over copies of the crates below, and is no part of the gate.
+# Usage: bench/book.sh [EVENTS], where EVENTS is the greatest number of events of a kind.
+. "$(dirname "$0")/scratch.sh"
+events=${1:-100000}
+scratch book_load "venue_words match_core symbol_book" "venue_words eager_meaning market_laws best_prices peg_price min_quantity \
+    move_history limit_tree peg_groups match_core symbol_book"
+cat > src/main.rt <<'END_OF_MAIN'
 //! A book under load.
 #![tactic(auto)]
 
@@ -28,6 +14,7 @@ ghost use Rattle.std.specs.Prelude.{◌≡◌};
 
 use std::alloc::Global;
 use std::env;
+use std::fs;
 use std::io;
 use std::marker::Brand;
 use std::rt::{Clock, Runtime};
@@ -36,31 +23,58 @@ use std::time::Instant;
 use symbol_book::Book;
 use venue_words::{Bytes, Command, Held, NoMemory, Steps, Terms};
 
-/// One share as an amount, and one unit of price.
-const SHARE: i128 = 100_000_000;
+/// 100 shares as an amount, and one unit of price.
+const ROUND_LOT: i128 = 10_000_000_000;
+
 const UNIT: i128 = 500_000;
 
-fn order(alloc: Global, number: u32) -> Result<Command, NoMemory> {
+fn terms(side: u8, peg: u32, offset: Option<i128>) -> Terms {
+    Terms {
+        side,
+        quantity: ROUND_LOT,
+        kind: b'P',
+        price: None,
+        force: None,
+        minimum: None,
+        method: None,
+        peg: Some(peg),
+        offset,
+        offset_kind: None,
+        moves: None,
+        round: None,
+    }
+}
+
+fn new(alloc: Global, number: u32, terms: Terms) -> Result<Command, NoMemory> {
     let text = format!(in alloc; "ord-{number:06}")?;
-    let third = number % 3;
     Ok(Command::New {
         member: number % 200,
         id: Bytes::copy_of(alloc, text.as_bytes())?,
-        terms: Terms {
-            side: b'1',
-            quantity: 100 * SHARE,
-            kind: b'P',
-            price: None,
-            force: None,
-            minimum: None,
-            method: None,
-            peg: Some(if third == 0 { 2 } else { 5 }),
-            offset: if third == 2 { Some(-2 * UNIT) } else { None },
-            offset_kind: None,
-            moves: None,
-            round: None,
-        },
+        terms,
     })
+}
+
+/// A buy that follows the midpoint, the bid, or the bid at a distance.
+fn resting(alloc: Global, number: u32) -> Result<Command, NoMemory> {
+    let third = number % 3;
+    let peg = if third == 0 { 2 } else { 5 };
+    let offset = if third == 2 { Some(-2 * UNIT) } else { None };
+    new(alloc, number, terms(b'1', peg, offset))
+}
+
+/// A sell at the midpoint, or the buy that it trades with.
+fn trading(alloc: Global, number: u32) -> Result<Command, NoMemory> {
+    let side = if number % 2 == 0 { b'2' } else { b'1' };
+    new(alloc, number.saturating_add(900_000), terms(side, 2, None))
+}
+
+fn quote(number: u32) -> Command {
+    let cents = 1000 + number % 7;
+    Command::Quote {
+        market: 0,
+        bid: Some(cents),
+        offer: Some(cents + 2),
+    }
 }
 
 fn submit<L: Ledger>(book: &mut Book, command: Command, steps: &mut Steps<L>) -> bool {
@@ -71,64 +85,118 @@ fn submit<L: Ledger>(book: &mut Book, command: Command, steps: &mut Steps<L>) ->
     }
 }
 
-fn load<L: Ledger>(rt: &(impl Runtime + AllocGlobal), orders: u32, quotes: u32, blank: Blank) -> io::Result<()>
-    requires { (blank.name ≡ L.name) × (blank.parts ≡ L.parts) × (L.parts ≡ 1) }
+/// Submits a command that was made, and answers how many were taken now.
+fn taken<L: Ledger>(
+    book: &mut Book,
+    command: Result<Command, NoMemory>,
+    count: u32,
+    steps: &mut Steps<L>,
+) -> u32 {
+    match command {
+        Ok(command) => {
+            if submit(book, command, steps) {
+                count.saturating_add(1)
+            } else {
+                count
+            }
+        }
+        Err(_) => count,
+    }
+}
+
+fn rest<L: Ledger>(rt: &(impl Runtime + AllocGlobal), count: u32, book: &mut Book, steps: &mut Steps<L>) -> io::Result<()> {
+    let start = Instant::now(rt)?;
+    let mut events = 0;
+    for number in 0..count {
+        events = taken(book, resting(rt.alloc(), number), events, steps);
+    }
+    let nanos = start.elapsed(rt)?.as_nanos();
+    println!(rt; "{events} resting orders in {} us", nanos / 1000)
+}
+
+fn reprice<L: Ledger>(rt: &(impl Runtime + AllocGlobal), count: u32, book: &mut Book, steps: &mut Steps<L>) -> io::Result<()> {
+    let start = Instant::now(rt)?;
+    let mut events = 0;
+    for number in 0..count {
+        events = taken(book, Ok(quote(number)), events, steps);
+    }
+    let nanos = start.elapsed(rt)?.as_nanos();
+    println!(rt; "{events} quotes in {} us", nanos / 1000)
+}
+
+fn trade<L: Ledger>(rt: &(impl Runtime + AllocGlobal), count: u32, book: &mut Book, steps: &mut Steps<L>) -> io::Result<()> {
+    let start = Instant::now(rt)?;
+    let mut events = 0;
+    for number in 0..count {
+        events = taken(book, trading(rt.alloc(), number), events, steps);
+    }
+    let nanos = start.elapsed(rt)?.as_nanos();
+    println!(rt; "{events} orders that trade in {} us", nanos / 1000)
+}
+
+fn load<L: Ledger>(rt: &(impl Runtime + AllocGlobal), counts: [u32; 3], blank: Blank) -> io::Result<()>
+    requires name { blank.name ≡ L.name }
+    requires parts { blank.parts ≡ L.parts }
+    requires one { blank.parts ≡ 1 }
 {
-    let mut steps: Steps<L> = Steps::start(blank);
+    let mut steps = Steps::<L>::start(blank);
     let Ok(mut book) = Book::new(rt.alloc(), 2, 2_097_152, 2) else {
         return Ok(());
     };
-    let mut taken = 0u32;
-    let start = Instant::now(rt)?;
-    for number in 0..orders {
-        if let Ok(command) = order(rt.alloc(), number) {
-            if submit(&mut book, command, &mut steps) {
-                taken = taken.saturating_add(1);
-            }
-        }
-    }
-    let nanos = start.elapsed(rt)?.as_nanos();
-    println!(rt; "orders {taken} in {} us", nanos / 1000)?;
-    let start = Instant::now(rt)?;
-    for number in 0..quotes {
-        let cents = 1000 + number % 7;
-        let command = Command::Quote {
-            market: 0,
-            bid: Some(cents),
-            offer: Some(cents + 2),
-        };
-        if submit(&mut book, command, &mut steps) {
-            taken = taken.saturating_add(1);
-        }
-    }
-    let nanos = start.elapsed(rt)?.as_nanos();
-    println!(rt; "events {taken}, quotes in {} us, resting {} in {} groups", nanos / 1000, book.resting(), book.groups())
+    let [orders, quotes, trades] = counts;
+    taken(&mut book, Ok(quote(0)), 0, &mut steps);
+    rest(rt, orders, &mut book, &mut steps)?;
+    reprice(rt, quotes, &mut book, &mut steps)?;
+    trade(rt, trades, &mut book, &mut steps)?;
+    println!(rt; "{} reports, {} rest in {} groups", book.reports().len(), book.resting(), book.groups())
 }
 
 fn main(rt: HostRuntime) -> io::Result<()> {
-    let mut numbers = [0u32; 2];
+    let mut counts = [0u32; 3];
     let mut place = 0;
     for word in env::args(&rt)?.skip(1) {
-        if place < 2 {
-            numbers[place] = word.parse::<u32>().unwrap_or(0);
+        if place < 3 {
+            counts[place] = word.parse::<u32>().unwrap_or(0);
             place += 1;
         }
     }
-    load::<Brand>(&rt, numbers[0], numbers[1], Blank::new(1))
+    load::<Brand>(&rt, counts, Blank::new(1))?;
+    let status = fs::read_to_string(&rt, "/proc/self/status")?;
+    for line in status.lines() {
+        if let Some(peak) = line.strip_prefix("VmHWM:") {
+            println!(rt; "peak {}", peak.trim())?;
+        }
+    }
+    Ok(())
 }
-END
-cd crates/book_load
-rt run -- 0 0 > /dev/null
-program=$(find out -type f -perm -u+x -name 'book_load*' | head -1)
-measure() {
-    python3 - "$program" "$1" "$2" <<'END'
-import resource, subprocess, sys
-out = subprocess.run([sys.argv[1], sys.argv[2], sys.argv[3]], capture_output=True, text=True).stdout
-print(out.strip().replace("\n", "; "))
-print("greatest memory", resource.getrusage(resource.RUSAGE_CHILDREN).ru_maxrss * 1024)
-END
-}
-measure 0 0
-measure "$orders" 0
-measure 0 "$quotes"
-measure "$orders" "$quotes"
+END_OF_MAIN
+mkdir -p proofs/main
+cat > proofs/main/Invariants.antt <<'END_OF_PROOF'
+use Rattle.book_load.proofs.main.Given as goal
+
+abbrev pub ghosts-load : goal.ghosts-load
+ghosts-load a = record { name = a.blank.name; parts = a.blank.parts }
+END_OF_PROOF
+rt fmt > /dev/null
+rt run -- 0 0 0 > "$work/log" 2>&1 || true
+program=$(find out -type f -perm -u+x -name 'book_load' | head -1)
+[ -n "$program" ] || { tail -n 40 "$work/log"; exit 1; }
+python3 - "$program" "$events" <<'END_OF_MEASURE'
+import subprocess, sys
+
+program, most = sys.argv[1], int(sys.argv[2])
+
+
+def run(*counts):
+    """What the program prints, and its greatest resident memory in bytes."""
+    told = subprocess.run([program, *map(str, counts)], capture_output=True, text=True).stdout.splitlines()
+    return "; ".join(told[:-1]), int(told[-1].split()[1]) * 1024
+
+
+_, base = run(0, 0, 0)
+print(f"an empty book: {base} bytes")
+for share in (most // 10, most // 2, most):
+    for counts in ((share, 0, 0), (0, share, 0), (0, 0, share), (share, share, 0), (share, share, share)):
+        text, used = run(*counts)
+        print(f"{text}: {(used - base) / sum(counts):.0f} bytes an event")
+END_OF_MEASURE

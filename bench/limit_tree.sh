@@ -2,22 +2,9 @@
 # Times the tree of rows by limit beside std's BTreeMap over the same pairs: 200,000 puts, look-ups and cuts in
 # random order. It builds a scratch crate in a temporary folder over copies of the crates below, and is no part of
 # the gate. Usage: bench/limit_tree.sh
-set -e
-top=$(cd "$(dirname "$0")/.." && pwd)
-work=$(mktemp -d)
-trap 'rm -rf "$work"' EXIT
-mkdir -p "$work/crates"
-for crate in venue_words limit_tree; do
-    cp -r "$top/crates/$crate" "$work/crates/$crate"
-    rm -rf "$work/crates/$crate/out"
-done
-cd "$work"
-printf 'venue_words:\nlimit_tree: venue_words\n' > crates.txt
-rt new crates/tree_times start_io > /dev/null
-rm -rf crates/tree_times/proofs crates/tree_times/specs crates/tree_times/stdin crates/tree_times/stdout
-rm -f crates/tree_times/src/*
-printf 'venue_words:\nlimit_tree: venue_words\ntree_times: venue_words limit_tree\n' > crates.txt
-cat > crates/tree_times/src/main.rt <<'END'
+. "$(dirname "$0")/scratch.sh"
+scratch tree_times "venue_words limit_tree" "venue_words limit_tree"
+cat > src/main.rt <<'END'
 //! Times of the tree of rows by limit and of std's BTreeMap.
 #![tactic(auto)]
 
@@ -181,7 +168,6 @@ use Rattle.tree_times.proofs.main.Given as goal
 abbrev pub ghosts-counted : goal.ghosts-counted
 ghosts-counted a = record { name = a.blank.name; parts = a.blank.parts }
 END
-cd crates/tree_times
 rt fmt > /dev/null
 rt run > "$work/log" 2>&1 || true
 grep -E 'ns a call|: error|no proof' "$work/log"

@@ -2,27 +2,9 @@
 # Times `read_line` over lines of each kind: quotes of the first and of the last of 256 symbols, moments, and messages.
 # It builds a scratch crate in a temporary folder over copies of the crates below, and is no part of the gate.
 # Usage: bench/script_lines.sh
-set -e
-top=$(cd "$(dirname "$0")/.." && pwd)
-work=$(mktemp -d)
-trap 'rm -rf "$work"' EXIT
-mkdir -p "$work/crates"
-crates="venue_words fix_fields fix_write quote_intake script_text"
-for crate in $crates; do
-    cp -r "$top/crates/$crate" "$work/crates/$crate"
-    rm -rf "$work/crates/$crate/out" "$work/crates/$crate/must-fail"
-done
-cd "$work"
-for crate in $crates; do
-    grep "^$crate:" "$top/crates.txt" >> below.txt
-done
-cp below.txt crates.txt
-rt new crates/line_times start_io > /dev/null
-rm -rf crates/line_times/proofs crates/line_times/specs crates/line_times/stdin crates/line_times/stdout
-rm -f crates/line_times/src/*
-cp below.txt crates.txt
-echo 'line_times: venue_words script_text' >> crates.txt
-cat > crates/line_times/src/main.rt <<'END'
+. "$(dirname "$0")/scratch.sh"
+scratch line_times "venue_words script_text" "venue_words fix_fields fix_write quote_intake script_text"
+cat > src/main.rt <<'END'
 //! Times of reading lines.
 #![tactic(auto)]
 
@@ -81,7 +63,6 @@ fn main(rt: HostRuntime) -> io::Result<()> {
     line_times(&rt, "message", &config, b"M BROKER0 35=D|49=BROKER0|56=PEGV|34=2|52=20240102-14:30:00|11=a1|55=SYM0|54=1|38=100|40=P|1094=2|60=20240102-14:30:00|")
 }
 END
-cd crates/line_times
 rt fmt > /dev/null
 rt run > "$work/log" 2>&1 || true
 grep -E 'ns a line|: error|no proof' "$work/log" || cat "$work/log"

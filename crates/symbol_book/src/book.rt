@@ -2,12 +2,12 @@
 use crate::hashing::HashSeed;
 use crate::ids::UsedIds;
 use crate::log::ReportLog;
+use crate::parts::Parts;
 use crate::preparing::{key_for, make_room, room_for};
 use crate::room::Room;
 use crate::taking::takes_command;
 use crate::working::work;
 use best_prices::Markets;
-use eager_meaning::Order;
 use market_laws::{
     book_is_sound, bought_shares_are_sold, cum_is_sum_of_trades, new_is_answered_once,
     new_trades_fit, quote_trades_fit, replace_trades_fit, reports_are_few, rows_stand,
@@ -17,7 +17,7 @@ use match_core::Engine;
 use std::alloc::Global;
 use std::marker::Model;
 use std::sync::ledger::Ledger;
-use venue_words::{Command, Event, FloorRefusal, Key, NoMemory, Report, Row, Steps};
+use venue_words::{Command, Event, FloorRefusal, Key, NoMemory, Report, Steps};
 
 /// The book of one symbol over a matching engine. It is seen as its journal and what that makes: the state and the reports
 /// are always those of the market's rules for the journal.
@@ -26,13 +26,7 @@ pub struct BookOver<E: Engine + Drop> {
     alloc: Global,
     tick: u32,
     limit: u32,
-    markets: Markets,
-    engine: E,
-    orders: Vec<Order>,
-    /// For each order the row with which it entered last, or none where it was canceled or may not rest.
-    entered: Vec<Option<Row>>,
-    ids: UsedIds,
-    log: ReportLog,
+    parts: Parts<E>,
     journal: Vec<Event>,
     /// The key of the row for which there is room, where there is room for an event.
     ready: Option<Option<Key>>,
@@ -50,20 +44,22 @@ impl<E: Engine + Drop> Model for BookOver<E> {
     ghost Value = { BookView };
 
     ghost view = { λ b. record {
-      markets = length b.markets;
+      markets = length b.parts.markets;
       tick = b.tick;
       limit = b.limit;
       journal = b.journal.items;
-      reports = b.log.list;
+      reports = b.parts.log.list;
       ready = b.ready;
     } };
 
-    ghost invariant = { λ b. IsKept b.tick b.limit b.markets (E.buys b.engine) (E.sells b.engine) (E.best b.engine)
-        (E.latest b.engine) b.orders.items b.entered.items b.ids b.log b.journal.items
-        × ((key : Option Key) → b.ready ≡ Some key → E.ready b.engine key
-        × HasPlaces (length (E.buys b.engine) + length (E.sells b.engine)) (vec_capacity b.orders - vec_len b.orders)
-        (vec_capacity b.entered - vec_len b.entered) b.ids.room (vec_capacity b.journal - vec_len b.journal) b.log
-        × IsNarrow key (E.width b.engine) (key_count (E.buys b.engine ++ E.sells b.engine))) };
+    ghost invariant = { λ b. IsKept b.tick b.limit b.parts.markets (E.buys b.parts.engine) (E.sells b.parts.engine)
+        (E.best b.parts.engine) (E.latest b.parts.engine) b.parts.orders.items b.parts.entered.items b.parts.ids
+        b.parts.log b.journal.items
+        × ((key : Option Key) → b.ready ≡ Some key → E.ready b.parts.engine key
+        × HasPlaces (length (E.buys b.parts.engine) + length (E.sells b.parts.engine))
+        (vec_capacity b.parts.orders - vec_len b.parts.orders) (vec_capacity b.parts.entered - vec_len b.parts.entered)
+        b.parts.ids.room (vec_capacity b.journal - vec_len b.journal) b.parts.log
+        × IsNarrow key (E.width b.parts.engine) (key_count (E.buys b.parts.engine ++ E.sells b.parts.engine))) };
 }
 
 impl<E: Engine + Drop> BookOver<E> {
@@ -107,12 +103,14 @@ impl<E: Engine + Drop> BookOver<E> {
             alloc,
             tick,
             limit,
-            markets,
-            engine,
-            orders: Vec::new(alloc),
-            entered: Vec::new(alloc),
-            ids: UsedIds::new(alloc, seed),
-            log: ReportLog::new(alloc),
+            parts: Parts {
+                markets,
+                engine,
+                orders: Vec::new(alloc),
+                entered: Vec::new(alloc),
+                ids: UsedIds::new(alloc, seed),
+                log: ReportLog::new(alloc),
+            },
             journal: Vec::new(alloc),
             ready: None,
         })
@@ -140,7 +138,7 @@ impl<E: Engine + Drop> BookOver<E> {
         book_is_sound();
         trades_are_within_quote();
         new_is_answered_once();
-        self.log.as_slice()
+        self.parts.log.as_slice()
     }
 
     /// The events, in their order.
@@ -156,7 +154,7 @@ impl<E: Engine + Drop> BookOver<E> {
             + length (runs self.now.markets self.now.tick self.now.journal).state.sells }
     {
         book_is_sound();
-        self.engine.len() as u32
+        self.parts.engine.len() as u32
     }
 
     /// How many peg groups rest: the different keys of the resting orders.
@@ -164,7 +162,7 @@ impl<E: Engine + Drop> BookOver<E> {
         ensures { result ≡ groups (runs self.now.markets self.now.tick self.now.journal).state }
     {
         book_is_sound();
-        self.engine.groups() as u32
+        self.parts.engine.groups() as u32
     }
 
     /// Whether it takes a command: prices of quotes are from 0.01 to 19,999.99, ids have at most 64 bytes, and a quote is of a
@@ -174,7 +172,7 @@ impl<E: Engine + Drop> BookOver<E> {
         ensures setting { result ≡ takes_command (markets_in (setting_of self.now.markets self.now.tick)) command.now }
     {
         self.parts_of_setting();
-        takes_command(self.markets.len(), command)
+        takes_command(self.parts.markets.len(), command)
     }
 
     /// How many reports there are.
@@ -182,7 +180,7 @@ impl<E: Engine + Drop> BookOver<E> {
         ensures { result ≡ length self.now.reports }
     {
         reports_are_few();
-        self.log.as_slice().len() as u32
+        self.parts.log.as_slice().len() as u32
     }
 
     /// The number of the next event.
@@ -226,19 +224,9 @@ impl<E: Engine + Drop> BookOver<E> {
         };
         book_is_sound();
         let key = key_for(self.tick, command);
-        let rows = self.engine.len();
+        let rows = self.parts.engine.len();
         self.ready = None;
-        let made = make_room(
-            self.alloc,
-            key,
-            rows,
-            &mut self.engine,
-            &mut self.orders,
-            &mut self.entered,
-            &mut self.ids,
-            &mut self.log,
-            &mut self.journal,
-        );
+        let made = make_room(self.alloc, key, rows, &mut self.parts, &mut self.journal);
         if made.is_err() {
             return Err(FloorRefusal::NoMemory);
         }
@@ -264,18 +252,7 @@ impl<E: Engine + Drop> BookOver<E> {
         quote_trades_fit();
         new_trades_fit();
         replace_trades_fit();
-        work(
-            self.tick,
-            &mut self.markets,
-            &mut self.engine,
-            &mut self.orders,
-            &mut self.entered,
-            &mut self.ids,
-            &mut self.log,
-            &event,
-            room,
-            steps,
-        );
+        work(self.tick, &mut self.parts, &event, room, steps);
         self.journal.push_reserved(event);
         self.ready = None;
     }

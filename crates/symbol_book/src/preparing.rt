@@ -7,13 +7,13 @@ ghost use Rattle.eager_meaning.specs.Work.{key_count};
 ghost use Rattle.symbol_book.specs.Commands.{IsNarrow, key_for};
 ghost use Rattle.symbol_book.specs.Room.{CopiesOwn, CopiesOrig, IsRoomFor, HasPlaces};
 
-use crate::ids::{ClOrdId, UsedIds};
-use crate::log::ReportLog;
+use crate::ids::ClOrdId;
+use crate::parts::Parts;
 use crate::room::Room;
-use eager_meaning::{Order, key_of};
+use eager_meaning::key_of;
 use match_core::Engine;
 use std::alloc::{AllocError, Global};
-use venue_words::{Bytes, Command, Event, Key, NoMemory, Row};
+use venue_words::{Bytes, Command, Event, Key, NoMemory};
 
 /// Copies of two ids of a member.
 fn copies(alloc: Global, member: u32, id: &[u8], orig: &[u8]) -> Result<Room, AllocError>
@@ -63,39 +63,36 @@ pub fn key_for(tick: u32, command: &Command) -> Option<Key>
 }
 
 /// Makes the room of a book of so many rows for one event. Only what is missing is added.
-pub fn make_room<E: Engine>(
+pub fn make_room<E: Engine + Drop>(
     alloc: Global,
     key: Option<Key>,
     rows: usize,
-    engine: &mut E,
-    orders: &mut Vec<Order>,
-    entered: &mut Vec<Option<Row>>,
-    ids: &mut UsedIds,
-    log: &mut ReportLog,
+    parts: &mut Parts<E>,
     journal: &mut Vec<Event>,
 ) -> Result<(), NoMemory>
     requires rows { 2 * rows + 4 < 2 ^ 63 }
     requires key { ForSome key IsKey }
-    ensures orders { orders.new.items ≡ orders.old.items }
-    ensures entered { entered.new.items ≡ entered.old.items }
-    ensures ids { ids.new.entries ≡ ids.old.entries }
-    ensures reports { log.new.list ≡ log.old.list }
+    ensures orders { parts.new.orders.items ≡ parts.old.orders.items }
+    ensures entered { parts.new.entered.items ≡ parts.old.entered.items }
+    ensures ids { parts.new.ids.entries ≡ parts.old.ids.entries }
+    ensures reports { parts.new.log.list ≡ parts.old.log.list }
     ensures journal { journal.new.items ≡ journal.old.items }
-    ensures buys { E.buys engine.new ≡ E.buys engine.old }
-    ensures sells { E.sells engine.new ≡ E.sells engine.old }
-    ensures best { E.best engine.new ≡ E.best engine.old }
-    ensures latest { E.latest engine.new ≡ E.latest engine.old }
-    ensures ready { OnOk result (E.ready engine.new key) }
-    ensures narrow { OnOk result (IsNarrow key (E.width engine.new) (key_count
-        (E.buys engine.new ++ E.sells engine.new))) }
-    ensures room { OnOk result (HasPlaces rows (vec_capacity orders.new - vec_len orders.new)
-        (vec_capacity entered.new - vec_len entered.new) ids.new.room
-        (vec_capacity journal.new - vec_len journal.new) log.new) }
+    ensures markets { parts.new.markets ≡ parts.old.markets }
+    ensures buys { E.buys parts.new.engine ≡ E.buys parts.old.engine }
+    ensures sells { E.sells parts.new.engine ≡ E.sells parts.old.engine }
+    ensures best { E.best parts.new.engine ≡ E.best parts.old.engine }
+    ensures latest { E.latest parts.new.engine ≡ E.latest parts.old.engine }
+    ensures ready { OnOk result (E.ready parts.new.engine key) }
+    ensures narrow { OnOk result (IsNarrow key (E.width parts.new.engine) (key_count
+        (E.buys parts.new.engine ++ E.sells parts.new.engine))) }
+    ensures room { OnOk result (HasPlaces rows (vec_capacity parts.new.orders - vec_len parts.new.orders)
+        (vec_capacity parts.new.entered - vec_len parts.new.entered) parts.new.ids.room
+        (vec_capacity journal.new - vec_len journal.new) parts.new.log) }
 {
-    orders.reserve(1)?;
-    entered.reserve(1)?;
-    ids.reserve()?;
+    parts.orders.reserve(1)?;
+    parts.entered.reserve(1)?;
+    parts.ids.reserve()?;
     journal.reserve(1)?;
-    log.reserve(alloc, 2 * rows + 4, 2 * rows + 3)?;
-    engine.reserve(key)
+    parts.log.reserve(alloc, 2 * rows + 4, 2 * rows + 3)?;
+    parts.engine.reserve(key)
 }

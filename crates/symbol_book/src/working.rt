@@ -15,60 +15,56 @@ ghost use Rattle.symbol_book.specs.Worked.{IsWorked};
 
 use crate::admitting::on_new;
 use crate::canceling::on_cancel;
-use crate::ids::UsedIds;
-use crate::log::ReportLog;
+use crate::parts::Parts;
 use crate::quoting::on_quote;
 use crate::replacing::on_replace;
 use crate::room::Room;
 use crate::status::on_status;
-use best_prices::Markets;
-use eager_meaning::Order;
 use match_core::Engine;
 use std::sync::ledger::Ledger;
-use venue_words::{Best, Command, Event, Row, Steps};
+use venue_words::{Best, Command, Event, Steps};
 
 /// Works a command at its event, without memory, and answers the next place of its reports.
 #[tactic(auto, unfolding(eager_meaning::specs::Step::outcome_of, crate::specs::Changes::ids_after))]
-pub fn work<E: Engine, L: Ledger>(
+pub fn work<E: Engine + Drop, L: Ledger>(
     tick: u32,
-    markets: &mut Markets,
-    engine: &mut E,
-    orders: &mut Vec<Order>,
-    entered: &mut Vec<Option<Row>>,
-    ids: &mut UsedIds,
-    log: &mut ReportLog,
+    parts: &mut Parts<E>,
     event: &Event,
     room: Room,
     steps: &mut Steps<L>,
 ) -> u32
     requires tick { IsTick tick }
     requires room { IsRoomFor event.now.command room }
-    requires ready { E.ready engine.old (key_for tick event.now.command) }
-    requires narrow { IsNarrow (key_for tick event.now.command) (E.width engine.old) (key_count
-        (E.buys engine.old ++ E.sells engine.old)) }
-    requires later { E.latest engine.old < event.now.number }
-    requires best { E.best engine.old ≡ best_of markets.old }
-    requires fits { CanWork tick event.now.number event.now.command (state_of markets.old (E.buys engine.old)
-        (E.sells engine.old) orders.old.items (used_of ids.old.entries)) }
-    requires kept { KeepsOrders entered.old.items orders.old.items
-        (E.buys engine.old ++ E.sells engine.old) ids.old.entries }
-    requires order_room { vec_len orders.old < vec_capacity orders.old }
-    requires row_room { vec_len entered.old < vec_capacity entered.old }
-    requires id_room { 0 < ids.old.room }
-    requires few_orders { length orders.old.items < 2 ^ 31 }
-    requires few { length (E.buys engine.old) + length (E.sells engine.old) < 2 ^ 30 }
-    requires places { 2 * (length (E.buys engine.old) + length (E.sells engine.old)) + 4 ≤ log.old.places }
-    requires buffers { 2 * (length (E.buys engine.old) + length (E.sells engine.old)) + 3 ≤ log.old.buffers }
-    ensures worked { IsWorked tick event.now (state_of markets.old (E.buys engine.old)
-        (E.sells engine.old) orders.old.items (used_of ids.old.entries)) entered.old.items ids.old.entries
-        log.old.list (state_of markets.new (E.buys engine.new) (E.sells engine.new) orders.new.items
-        (used_of ids.new.entries)) entered.new.items ids.new.entries log.new.list result }
-    ensures small { All IsSmall orders.new.items }
-    ensures most { steps.new ≤ steps.old + bound tick (state_of markets.old (E.buys engine.old)
-        (E.sells engine.old) orders.old.items (used_of ids.old.entries)) event.now.number event.now.command }
-    ensures count { length markets.new ≡ length markets.old }
-    ensures best { E.best engine.new ≡ best_of markets.new }
-    ensures latest { E.latest engine.new ≤ event.now.number }
+    requires ready { E.ready parts.old.engine (key_for tick event.now.command) }
+    requires narrow { IsNarrow (key_for tick event.now.command) (E.width parts.old.engine) (key_count
+        (E.buys parts.old.engine ++ E.sells parts.old.engine)) }
+    requires later { E.latest parts.old.engine < event.now.number }
+    requires best { E.best parts.old.engine ≡ best_of parts.old.markets }
+    requires fits { CanWork tick event.now.number event.now.command (state_of parts.old.markets (E.buys parts.old.engine)
+        (E.sells parts.old.engine) parts.old.orders.items (used_of parts.old.ids.entries)) }
+    requires kept { KeepsOrders parts.old.entered.items parts.old.orders.items
+        (E.buys parts.old.engine ++ E.sells parts.old.engine) parts.old.ids.entries }
+    requires order_room { vec_len parts.old.orders < vec_capacity parts.old.orders }
+    requires row_room { vec_len parts.old.entered < vec_capacity parts.old.entered }
+    requires id_room { 0 < parts.old.ids.room }
+    requires few_orders { length parts.old.orders.items < 2 ^ 31 }
+    requires few { length (E.buys parts.old.engine) + length (E.sells parts.old.engine) < 2 ^ 30 }
+    requires places { 2 * (length (E.buys parts.old.engine) + length (E.sells parts.old.engine)) + 4
+        ≤ parts.old.log.places }
+    requires buffers { 2 * (length (E.buys parts.old.engine) + length (E.sells parts.old.engine)) + 3
+        ≤ parts.old.log.buffers }
+    ensures worked { IsWorked tick event.now (state_of parts.old.markets (E.buys parts.old.engine)
+        (E.sells parts.old.engine) parts.old.orders.items (used_of parts.old.ids.entries)) parts.old.entered.items
+        parts.old.ids.entries parts.old.log.list (state_of parts.new.markets (E.buys parts.new.engine)
+        (E.sells parts.new.engine) parts.new.orders.items (used_of parts.new.ids.entries)) parts.new.entered.items
+        parts.new.ids.entries parts.new.log.list result }
+    ensures small { All IsSmall parts.new.orders.items }
+    ensures most { steps.new ≤ steps.old + bound tick (state_of parts.old.markets (E.buys parts.old.engine)
+        (E.sells parts.old.engine) parts.old.orders.items (used_of parts.old.ids.entries)) event.now.number
+        event.now.command }
+    ensures count { length parts.new.markets ≡ length parts.old.markets }
+    ensures best { E.best parts.new.engine ≡ best_of parts.new.markets }
+    ensures latest { E.latest parts.new.engine ≤ event.now.number }
 {
     match &event.command {
         Command::Quote { market, bid, offer } => {
@@ -76,13 +72,44 @@ pub fn work<E: Engine, L: Ledger>(
                 bid: *bid,
                 offer: *offer,
             };
-            on_quote(markets, engine, orders, log, event, *market, quote, steps)
+            on_quote(
+                &mut parts.markets,
+                &mut parts.engine,
+                &mut parts.orders,
+                &mut parts.log,
+                event,
+                *market,
+                quote,
+                steps,
+            )
         }
         Command::New { member, id, terms } => on_new(
-            tick, engine, orders, entered, ids, log, event, *member, id, terms, room, steps,
+            tick,
+            &mut parts.engine,
+            &mut parts.orders,
+            &mut parts.entered,
+            &mut parts.ids,
+            &mut parts.log,
+            event,
+            *member,
+            id,
+            terms,
+            room,
+            steps,
         ),
         Command::Cancel { member, id, orig } => on_cancel(
-            tick, engine, orders, entered, ids, log, event, *member, id, orig, room, steps,
+            tick,
+            &mut parts.engine,
+            &mut parts.orders,
+            &mut parts.entered,
+            &mut parts.ids,
+            &mut parts.log,
+            event,
+            *member,
+            id,
+            orig,
+            room,
+            steps,
         ),
         Command::Replace {
             member,
@@ -90,14 +117,35 @@ pub fn work<E: Engine, L: Ledger>(
             orig,
             terms,
         } => on_replace(
-            tick, engine, orders, entered, ids, log, event, *member, id, orig, terms, room, steps,
+            tick,
+            &mut parts.engine,
+            &mut parts.orders,
+            &mut parts.entered,
+            &mut parts.ids,
+            &mut parts.log,
+            event,
+            *member,
+            id,
+            orig,
+            terms,
+            room,
+            steps,
         ),
         Command::Status {
             member,
             id: _,
             side,
         } => on_status(
-            engine, orders, entered, ids, log, event, *member, *side, room, steps,
+            &parts.engine,
+            &parts.orders,
+            &parts.entered,
+            &parts.ids,
+            &mut parts.log,
+            event,
+            *member,
+            *side,
+            room,
+            steps,
         ),
     }
 }

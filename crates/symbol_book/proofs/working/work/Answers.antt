@@ -13,22 +13,22 @@ use Rattle.symbol_book.proofs.working.work.Goals as goal
 
 pub returns-in-Quote-clause-most : goal.returns-in-Quote-clause-most
 returns-in-Quote-clause-most g c =
-    let rows : List Priced = g.E.Engine.buys c.args.engine.now ++ g.E.Engine.sells c.args.engine.now in
-    let narrow : g.E.Engine.width c.args.engine.now ≤ key_count rows = c.requires.narrow.narrow (rw c.in-Quote.is refl) in
-    rw c.in-Quote.is (quote_within _ _ _ _ _ (c.on_quote.ensures.most (used_of c.args.ids.now.entries)) narrow)
+    let rows : List Priced = g.E.Engine.buys c.args.parts.now.engine ++ g.E.Engine.sells c.args.parts.now.engine in
+    let narrow : g.E.Engine.width c.args.parts.now.engine ≤ key_count rows = c.requires.narrow.narrow (rw c.in-Quote.is refl) in
+    rw c.in-Quote.is (quote_within _ _ _ _ _ (c.on_quote.ensures.most (used_of c.args.parts.now.ids.entries)) narrow)
 
 pub returns-in-New-clause-most : goal.returns-in-New-clause-most
 returns-in-New-clause-most g c =
-    order_within _ _ (g.E.Engine.width c.args.engine.now) _ _ (c.on_new.ensures.most c.args.markets.now (sym c.requires.best)) c.requires.narrow.wide
+    order_within _ _ (g.E.Engine.width c.args.parts.now.engine) _ _ (c.on_new.ensures.most c.args.parts.now.markets (sym c.requires.best)) c.requires.narrow.wide
 
 pub returns-in-Replace-clause-most : goal.returns-in-Replace-clause-most
 returns-in-Replace-clause-most g c =
-    replace_within _ _ (g.E.Engine.width c.args.engine.now) _ (g.E.Engine.buys c.args.engine.now ++ g.E.Engine.sells c.args.engine.now) (c.on_replace.ensures.most c.args.markets.now (sym c.requires.best)) c.requires.narrow.wide c.on_replace.ensures.idle
+    replace_within _ _ (g.E.Engine.width c.args.parts.now.engine) _ (g.E.Engine.buys c.args.parts.now.engine ++ g.E.Engine.sells c.args.parts.now.engine) (c.on_replace.ensures.most c.args.parts.now.markets (sym c.requires.best)) c.requires.narrow.wide c.on_replace.ensures.idle
 
 pub returns-in-Status-clause-worked : goal.returns-in-Status-clause-worked
 returns-in-Status-clause-worked g c =
-    let state : List Order → State = λ orders. state_of c.args.markets.now (g.E.Engine.buys c.args.engine.now) (g.E.Engine.sells c.args.engine.now) orders (used_of c.args.ids.now.entries) in
-    let same : c.deref-in-Status.result.now ≡ c.args.orders.now.items = search rules in
-    let reports : Reports c.args.event.now c.args.log.now.list 1 (on_status c.in-Status.member c.args.room.orig.id.items c.in-Status.side (state c.args.orders.now.items)).notices c.on_status.new.log.list c.on_status.result =
-    subst (λ (orders : List Order). Reports c.args.event.now c.args.log.now.list 1 (on_status c.in-Status.member c.args.room.orig.id.items c.in-Status.side (state orders)).notices c.on_status.new.log.list c.on_status.result) same (c.on_status.ensures.reports c.args.markets.now) in
-    status_done c.args.tick c.args.event.now c.in-Status.member _ c.in-Status.side c.args.room (state c.args.orders.now.items) c.args.entered.now.items c.args.ids.now.entries c.args.log.now.list c.on_status.new.log.list c.on_status.result c.in-Status.is c.requires.room reports
+    let state : List Order → State = λ orders. state_of c.args.parts.now.markets (g.E.Engine.buys c.args.parts.now.engine) (g.E.Engine.sells c.args.parts.now.engine) orders (used_of c.args.parts.now.ids.entries) in
+    let same : c.deref-in-Status.result.now ≡ c.args.parts.now.orders.items = search rules in
+    let reports : Reports c.args.event.now c.args.parts.now.log.list 1 (on_status c.in-Status.member c.args.room.orig.id.items c.in-Status.side (state c.args.parts.now.orders.items)).notices c.on_status.new.log.list c.on_status.result =
+    subst (λ (orders : List Order). Reports c.args.event.now c.args.parts.now.log.list 1 (on_status c.in-Status.member c.args.room.orig.id.items c.in-Status.side (state orders)).notices c.on_status.new.log.list c.on_status.result) same (c.on_status.ensures.reports c.args.parts.now.markets) in
+    status_done c.args.tick c.args.event.now c.in-Status.member _ c.in-Status.side c.args.room (state c.args.parts.now.orders.items) c.args.parts.now.entered.items c.args.parts.now.ids.entries c.args.parts.now.log.list c.on_status.new.log.list c.on_status.result c.in-Status.is c.requires.room reports

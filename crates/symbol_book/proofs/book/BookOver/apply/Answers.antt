@@ -8,7 +8,7 @@ use Rattle.symbol_book.proofs.book.BookOver.apply.Goals as goal
 pub work-requires-clause-fits : goal.work-requires-clause-fits
 work-requires-clause-fits g c =
     let kept = c.self.invariant.0 in
-    let takes : takes_command (length c.self.inside.markets) c.args.event.command ≡ true = subst (λ (v : BookView). takes_command v.markets c.args.event.command ≡ true) (sym c.self.view_is) c.requires.takes in
+    let takes : takes_command (length c.self.inside.parts.markets) c.args.event.command ≡ true = subst (λ (v : BookView). takes_command v.markets c.args.event.command ≡ true) (sym c.self.view_is) c.requires.takes in
     let next : c.args.event.number ≡ length c.self.inside.journal.items + 1 = c.requires.number ∙ ap (λ (v : BookView). length v.journal + 1) (sym c.self.view_is) in
     can_work c.quote_trades_fit.ensures c.new_trades_fit.ensures c.replace_trades_fit.ensures _ _ _ kept.numbered _ c.args.event.number c.args.event.command kept.state next takes
 

@@ -9,6 +9,6 @@ use Rattle.symbol_book.proofs.book.BookOver.groups.Goals as goal
 pub overflow_cast-result : goal.overflow_cast-result
 overflow_cast-result g c =
     let few = few_orders _ _ _ _ _ _ _ _ _ _ _ _ c.self.invariant.0 c.book_is_sound.ensures in
-    let buys : List Priced = g.E.Engine.buys c.self.inside.engine in
-    let sells : List Priced = g.E.Engine.sells c.self.inside.engine in
+    let buys : List Priced = g.E.Engine.buys c.self.inside.parts.engine in
+    let sells : List Priced = g.E.Engine.sells c.self.inside.parts.engine in
     omega (arith, c.groups.ensures, most_keys (buys ++ sells), length-append buys sells, few.0, few.1, c.self.invariant.0.short, c.self.invariant.0.limits)

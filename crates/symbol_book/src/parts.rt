@@ -1,0 +1,19 @@
+//! What a book keeps beside its journal.
+use crate::ids::UsedIds;
+use crate::log::ReportLog;
+use best_prices::Markets;
+use eager_meaning::Order;
+use match_core::Engine;
+use venue_words::Row;
+
+/// What a book keeps beside its journal.
+#[derive(Drop)]
+pub struct Parts<E: Engine + Drop> {
+    pub markets: Markets,
+    pub engine: E,
+    pub orders: Vec<Order>,
+    /// For each order the row with which it entered last, or none where it was canceled or may not rest.
+    pub entered: Vec<Option<Row>>,
+    pub ids: UsedIds,
+    pub log: ReportLog,
+}
