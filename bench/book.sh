@@ -4,24 +4,27 @@
 # Usage: bench/book.sh [EVENTS], where EVENTS is the greatest number of events of a kind.
 . "$(dirname "$0")/scratch.sh"
 events=${1:-100000}
-scratch book_load "venue_words match_core symbol_book" "venue_words eager_meaning market_laws best_prices peg_price min_quantity \
-    move_history limit_tree peg_groups match_core symbol_book"
+scratch book_load "venue_words eager_meaning limit_tree match_core symbol_book" \
+    "venue_words eager_meaning market_laws best_prices peg_price min_quantity move_history limit_tree peg_groups match_core symbol_book"
 cat > src/main.rt <<'END_OF_MAIN'
 //! A book under load.
 #![tactic(auto)]
 
 ghost use Rattle.std.specs.Prelude.{◌≡◌};
 
+use eager_meaning::Order;
+use limit_tree::Node;
 use std::alloc::Global;
 use std::env;
 use std::fs;
 use std::io;
 use std::marker::Brand;
+use std::mem::size_of;
 use std::rt::{Clock, Runtime};
 use std::sync::ledger::{Blank, Ledger};
 use std::time::Instant;
 use symbol_book::Book;
-use venue_words::{Bytes, Command, Held, NoMemory, Steps, Terms};
+use venue_words::{Bytes, Command, Event, Held, NoMemory, Report, Row, Steps, Terms};
 
 /// 100 shares as an amount, and one unit of price.
 const ROUND_LOT: i128 = 10_000_000_000;
@@ -151,6 +154,16 @@ fn load<L: Ledger>(rt: &(impl Runtime + AllocGlobal), counts: [u32; 3], blank: B
     println!(rt; "{} reports, {} rest in {} groups", book.reports().len(), book.resting(), book.groups())
 }
 
+/// How many bytes the parts take.
+fn print_sizes(rt: &impl Print) -> io::Result<()> {
+    let event = size_of::<Event>();
+    let order = size_of::<Order>();
+    let row = size_of::<Option<Row>>();
+    let report = size_of::<Report>();
+    let node = size_of::<Node>();
+    println!(rt; "sizes in bytes: an event {event}, an order {order}, its row {row}, its node {node}, a report {report}")
+}
+
 fn main(rt: HostRuntime) -> io::Result<()> {
     let mut counts = [0u32; 3];
     let mut place = 0;
@@ -159,6 +172,9 @@ fn main(rt: HostRuntime) -> io::Result<()> {
             counts[place] = word.parse::<u32>().unwrap_or(0);
             place += 1;
         }
+    }
+    if counts == [0, 0, 0] {
+        print_sizes(&rt)?;
     }
     load::<Brand>(&rt, counts, Blank::new(1))?;
     let status = fs::read_to_string(&rt, "/proc/self/status")?;
@@ -193,8 +209,8 @@ def run(*counts):
     return "; ".join(told[:-1]), int(told[-1].split()[1]) * 1024
 
 
-_, base = run(0, 0, 0)
-print(f"an empty book: {base} bytes")
+text, base = run(0, 0, 0)
+print(f"{text}; {base} bytes in all")
 for share in (most // 10, most // 2, most):
     for counts in ((share, 0, 0), (0, share, 0), (0, 0, share), (share, share, 0), (share, share, share)):
         text, used = run(*counts)

@@ -1,5 +1,5 @@
-# Sourced by the scripts beside it. `scratch NAME "DEPS" "CRATES"` makes a scratch program in a temporary folder, which goes at the
-# end, over copies of these crates of the repository and on these of them, and goes into it. Its src/ is empty.
+# Sourced by the scripts beside it. `scratch NAME "DEPS" "CRATES"` makes a program in a temporary folder, which goes at the end,
+# over copies of these CRATES of the repository and on these DEPS of them, and goes into it. Its src/ is empty.
 set -e
 top=$(cd "$(dirname "$0")/.." && pwd)
 

@@ -7,7 +7,8 @@ ghost use Rattle.venue_words.specs.Retime.{reprice};
 ghost use Rattle.venue_words.specs.Rows.{IsAbsent, IsByEntry};
 ghost use Rattle.venue_words.specs.declared.row.Key.{Key};
 ghost use Rattle.venue_words.specs.declared.row.Priced.{Priced};
-ghost use Rattle.peg_groups.specs.Side.{Standing, IsLaterThan, IsCut, IsHeldAt, NoneAt, entered, standing_of, taken_row, with_row, without};
+ghost use Rattle.peg_groups.specs.Side.{Standing, IsLaterThan, IsCut, IsHeldAt, NoneAt};
+ghost use Rattle.peg_groups.specs.Side.{entered, standing_of, taken_row, with_row, without};
 
 use limit_tree::Node;
 use match_core::NarrowSide;
@@ -16,9 +17,9 @@ use std::marker::Brand;
 use std::sync::ledger::{Blank, Ledger};
 use venue_words::{Best, Key, NoMemory, Steps};
 
-/// Any side, as one of which a book can be made. Its rows, values and times are those of the side that it hands each call on to, with a
-/// count of steps of that call's own; it ticks once itself. Its width is a number beside the side: one more for each key that
-/// room was made for, and the number of keys once it was narrowed.
+/// Any side, as one of which a book can be made. Its rows, values and times are those of the side that it hands each call on
+/// to, with a count of steps of that call's own; it ticks once itself. Its width is a number beside the side: one more for each
+/// key that room was made for, and the number of keys once it was narrowed.
 #[derive(Drop)]
 pub struct Uncounted<S: SideBook + Drop> {
     side: S,
