@@ -3,6 +3,7 @@ pub mod Desks
 pub mod Ends
 pub mod Laws
 pub mod PlainFloors
+pub mod QuietLaws
 pub mod Reporting
 pub mod Submitting
 pub mod Working

@@ -30,3 +30,14 @@ messages_past config member cursors reports = messages_from config member cursor
 pub record MovedOn (symbols : ℕ) (reports : ℕ → List Report) (before after : List ℕ) : Type 0 where
   pub read : (symbol : ℕ) → symbol < symbols → cursor_at after symbol ≡ max (cursor_at before symbol) (length (reports symbol))
   pub rest : (symbol : ℕ) → symbols ≤ symbol → cursor_at after symbol ≡ cursor_at before symbol
+
+-- some symbol has more reports than were gone through; the fronts tell how many each symbol has
+pub record ArePast (fronts cursors : List ℕ) : Type 0 where
+  pub symbol : ℕ
+  pub told : symbol < length fronts
+  pub past : cursor_at cursors symbol < slice_index fronts symbol
+
+-- how many reports each of so many symbols has
+pub record AreFronts (symbols : ℕ) (reports : ℕ → List Report) (fronts : List ℕ) : Type 0 where
+  pub each : length fronts ≡ symbols
+  pub read : (symbol : ℕ) → symbol < symbols → slice_index fronts symbol ≡ length (reports symbol)

@@ -1,5 +1,5 @@
 //! The desk of a member.
-ghost use Rattle.std.specs.Prelude.{◌≡◌, ◌≤◌, ◌<◌, ◌++◌, ◌⊎◌, ℕ, length, IfOk, OnOk, OnErr, IfErr, IsOk};
+ghost use Rattle.std.specs.Prelude.{◌≡◌, ◌≤◌, ◌<◌, ◌++◌, ◌⊎◌, ℕ, true, false, length, IfOk, OnOk, OnErr, IfErr, IsOk};
 ghost use Rattle.venue_words.specs.Conditions.{IsConfig};
 ghost use Rattle.venue_words.specs.Floors.{setup_of, TurnsRose};
 ghost use Rattle.session_core.specs.Machine.{IsUp, IsOver, sending, on_clock, given_up};
@@ -8,12 +8,12 @@ ghost use Rattle.fix_frames.specs.Reading.{reading_of};
 ghost use Rattle.member_gate.specs.Ends.{silence};
 ghost use Rattle.member_gate.specs.Submitting.{TookAll, Stopped, Waited};
 ghost use Rattle.member_gate.specs.Working.{AreUnread};
-ghost use Rattle.member_gate.specs.Reporting.{messages_past, MovedOn};
+ghost use Rattle.member_gate.specs.Reporting.{messages_past, AreFronts, ArePast, MovedOn};
 
 use crate::names::name_at;
 use crate::origin::Origin;
 use crate::refusal::DeskRefusal;
-use crate::reporting::look_all;
+use crate::reporting::{are_past, look_all, look_past};
 use crate::working::{turn_of, work_piece};
 use fix_frames::Framer;
 use session_core::{Session, Turn};
@@ -168,6 +168,16 @@ impl Desk {
         }
     }
 
+    /// Whether the session is up and some symbol has reports past its cursor, where `fronts` tells, by symbol in the
+    /// config's order, how many there are. Where it has none, `pull` sends nothing and moves no cursor.
+    pub fn has_news(&self, fronts: &[u32]) -> bool
+        ensures up { result ≡ true → IsUp self.now.session }
+        ensures past { result ≡ true → ArePast fronts.now self.now.cursors }
+        ensures none { result ≡ false → IsUp self.now.session → ArePast fronts.now self.now.cursors → ⊥ }
+    {
+        !self.refused && self.session.is_up() && are_past(fronts, &self.cursors)
+    }
+
     /// The member's reports past the cursors, framed with the session's next numbers, at a moment in milliseconds since
     /// 1970-01-01 00:00 UTC: by symbol in the config's order, each symbol's in their own. The session keeps them, and each
     /// cursor goes on to the end of its symbol's reports. None come, and nothing changes, where the session is not up.
@@ -223,6 +233,62 @@ impl Desk {
         let frames = self.session.send_all(&messages, moment)?;
         swap(&mut self.cursors, &mut self.fronts);
         Ok(frames)
+    }
+
+    /// As `pull`, for a caller who knows how many reports each symbol has, by symbol in the config's order: the floor is asked
+    /// only for symbols with reports past the cursor.
+    pub fn pull_news<F: Floor>(
+        &mut self,
+        floor: &mut F,
+        config: &Config,
+        fronts: &[u32],
+        moment: i64,
+    ) -> Result<Vec<Bytes>, NoMemory>
+        requires config { IsConfig config.now }
+        requires setup { (F.mark floor.old).setup ≡ setup_of config.now }
+        requires member { self.old.member < length config.now.members }
+        requires fronts { AreFronts (length config.now.symbols) (λ symbol. (F.at floor.old symbol).reports) fronts.now }
+
+        // What is sent.
+        ensures frames { IfOk result (λ frames. frames.items ≡ (send_if_up self.old.session (messages_past config.now
+            self.old.member self.old.cursors (λ symbol. (F.at floor.new symbol).reports)) moment).turn.replies) }
+        ensures session { OnOk result (self.new.session ≡ (send_if_up self.old.session (messages_past config.now
+            self.old.member self.old.cursors (λ symbol. (F.at floor.new symbol).reports)) moment).machine) }
+        ensures cursors { OnOk result (IsUp self.old.session → MovedOn (length config.now.symbols)
+            (λ symbol. (F.at floor.new symbol).reports) self.old.cursors self.new.cursors) }
+
+        // Where the session is not up.
+        ensures down { (IsUp self.old.session → ⊥) → IsOk result × (self.new ≡ self.old) × (floor.new ≡ floor.old) }
+
+        // What is asked of the floor.
+        ensures mark { F.mark floor.new ≡ F.mark floor.old }
+        ensures waited { (symbol : ℕ) → Waited (F.at floor.old symbol) (F.at floor.new symbol) }
+        ensures others { (symbol : ℕ) → length config.now.symbols ≤ symbol
+            → F.at floor.new symbol ≡ F.at floor.old symbol }
+
+        // What stays.
+        ensures member { self.new.member ≡ self.old.member }
+        ensures unread { self.new.unread ≡ self.old.unread }
+        ensures err { OnErr result (self.new ≡ self.old) }
+    {
+        if self.refused || !self.session.is_up() {
+            return Ok(Vec::new(self.alloc));
+        }
+        let mut messages = Vec::new(self.alloc);
+        self.fronts.clear();
+        look_past(
+            self.alloc,
+            floor,
+            config,
+            self.member,
+            &self.cursors,
+            fronts,
+            &mut messages,
+            &mut self.fronts,
+        )?;
+        let sent = self.session.send_all(&messages, moment)?;
+        swap(&mut self.fronts, &mut self.cursors);
+        Ok(sent)
     }
 
     /// The clock says this moment, in milliseconds since 1970-01-01 00:00 UTC: the session sends at most one message, or

@@ -1,10 +1,10 @@
 //! A member's reports past the cursors of his desk.
-ghost use Rattle.std.specs.Prelude.{◌≡◌, ◌≢◌, ◌≤◌, ◌<◌, ◌++◌, ℕ, [], map, drop, length, IfOk, OnOk, OnErr};
+ghost use Rattle.std.specs.Prelude.{◌≡◌, ◌≢◌, ◌≤◌, ◌<◌, ◌++◌, ℕ, [], true, false, map, drop, length, IfOk, OnOk, OnErr};
 ghost use Rattle.venue_words.specs.Conditions.{IsConfig};
 ghost use Rattle.venue_words.specs.Floors.{setup_of, TurnsRose};
 ghost use Rattle.member_gate.specs.Answering.{name_at, message_of};
 ghost use Rattle.member_gate.specs.Submitting.{Waited};
-ghost use Rattle.member_gate.specs.Reporting.{cursor_at, messages_at, messages_past, MovedOn};
+ghost use Rattle.member_gate.specs.Reporting.{cursor_at, messages_at, messages_past, AreFronts, ArePast, MovedOn};
 
 use crate::names::name_at;
 use exec_reports::{body, kind};
@@ -20,6 +20,19 @@ fn cursor_at(cursors: &[u32], symbol: usize) -> u32
         Some(cursor) => *cursor,
         None => 0,
     }
+}
+
+/// Whether some symbol has more reports than were gone through, where `fronts` tells how many each has.
+pub fn are_past(fronts: &[u32], cursors: &[u32]) -> bool
+    ensures past { result ≡ true → ArePast fronts.now cursors.now }
+    ensures none { result ≡ false → ArePast fronts.now cursors.now → ⊥ }
+{
+    for symbol in 0..fronts.len() {
+        if cursor_at(cursors, symbol) < fronts[symbol] {
+            return true;
+        }
+    }
+    false
 }
 
 /// The cursors behind so many.
@@ -125,6 +138,83 @@ pub fn look_all<F: Floor>(
         let from = cursor_at(cursors, symbol);
         let front = look(alloc, floor, config, member, symbol as u32, from, messages)?;
         fronts.push(from.max(front))?;
+    }
+    fronts.extend_from_slice(behind(cursors, count))?;
+    Ok(())
+}
+
+/// Adds the member's reports of a symbol from a position on, as messages, where there are any, and answers how many
+/// reports there are: as many as are known.
+fn look_where_past<F: Floor>(
+    alloc: Global,
+    floor: &mut F,
+    config: &Config,
+    member: u32,
+    symbol: u32,
+    from: u32,
+    known: u32,
+    messages: &mut Vec<Message>,
+) -> Result<u32, NoMemory>
+    requires config { IsConfig config.now }
+    requires setup { (F.mark floor.old).setup ≡ setup_of config.now }
+    requires member { member < length config.now.members }
+    requires symbol { symbol < length config.now.symbols }
+    requires known { known ≡ length (F.at floor.old symbol).reports }
+    ensures mark { F.mark floor.new ≡ F.mark floor.old }
+    ensures others { (other : ℕ) → other ≢ symbol → F.at floor.new other ≡ F.at floor.old other }
+    ensures waited { Waited (F.at floor.old symbol) (F.at floor.new symbol) }
+    ensures messages { OnOk result (messages.new.items ≡ messages.old.items
+        ++ messages_at config.now member (name_at config.now.symbols symbol) from (F.at floor.new symbol).reports) }
+    ensures front { IfOk result (λ front. front ≡ length (F.at floor.new symbol).reports) }
+{
+    if from < known {
+        look(alloc, floor, config, member, symbol, from, messages)
+    } else {
+        Ok(known)
+    }
+}
+
+/// As `look_all`, where it is known how many reports each symbol has: only symbols with reports past the cursor are asked for.
+pub fn look_past<F: Floor>(
+    alloc: Global,
+    floor: &mut F,
+    config: &Config,
+    member: u32,
+    cursors: &[u32],
+    known: &[u32],
+    messages: &mut Vec<Message>,
+    fronts: &mut Vec<u32>,
+) -> Result<(), NoMemory>
+    requires config { IsConfig config.now }
+    requires setup { (F.mark floor.old).setup ≡ setup_of config.now }
+    requires member { member < length config.now.members }
+    requires known { AreFronts (length config.now.symbols) (λ symbol. (F.at floor.old symbol).reports) known.now }
+    requires messages { messages.old.items ≡ [] }
+    requires fronts { fronts.old.items ≡ [] }
+    ensures mark { F.mark floor.new ≡ F.mark floor.old }
+    ensures waited { (symbol : ℕ) → Waited (F.at floor.old symbol) (F.at floor.new symbol) }
+    ensures others { (symbol : ℕ) → length config.now.symbols ≤ symbol → F.at floor.new symbol ≡ F.at floor.old symbol }
+    ensures messages { OnOk result (messages.new.items
+        ≡ messages_past config.now member cursors.now (λ symbol. (F.at floor.new symbol).reports)) }
+    ensures fronts { OnOk result (MovedOn (length config.now.symbols) (λ symbol. (F.at floor.new symbol).reports)
+        cursors.now fronts.new.items) }
+{
+    let count = config.symbols.len();
+    for symbol in 0..count {
+        let from = cursor_at(cursors, symbol);
+        let there = known[symbol];
+        let front = look_where_past(
+            alloc,
+            floor,
+            config,
+            member,
+            symbol as u32,
+            from,
+            there,
+            messages,
+        )?;
+        let moved = from.max(front);
+        fronts.push(moved)?;
     }
     fronts.extend_from_slice(behind(cursors, count))?;
     Ok(())

@@ -40,7 +40,7 @@ eq_or_not zero (suc b) = inr (λ e. absurd (cc))
 eq_or_not (suc a) zero = inr (λ e. absurd (cc))
 eq_or_not (suc a) (suc b) = elim (eq_or_not a b) [ inl e ↦ inl (ap suc e) | inr n ↦ inr (λ e. n (cc)) ]
 
-less_or_not : (a b : ℕ) → (a < b) ⊎ (b ≤ a)
+pub less_or_not : (a b : ℕ) → (a < b) ⊎ (b ≤ a)
 less_or_not a b = elim (nat_lt a b) as (λ t. nat_lt a b ≡ t → (a < b) ⊎ (b ≤ a)) [
   | true ↦ λ e. inl (grind (arith, nat_tests))
   | false ↦ λ e. inr (grind (arith, nat_tests))

@@ -1,6 +1,7 @@
 pub mod Over
 pub mod OneByOne
 pub mod DeskWork
+pub mod Quiet
 pub mod FloorWork
 pub mod PieceWork
 pub mod Standing

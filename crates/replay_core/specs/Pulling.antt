@@ -3,11 +3,12 @@ use Rattle.std.specs.Prelude.{ℕ, ℤ, max, if◌then◌else◌, List, length, 
 use Rattle.std.specs.List.{flat_map, range_with_len}
 use Rattle.venue_words.specs.declared.command.Event.{Event}
 use Rattle.venue_words.specs.declared.config.Config.{Config}
+use Rattle.venue_words.specs.Floors.{SymbolView}
 use Rattle.session_core.specs.Machine.{Outcome}
 use Rattle.session_core.specs.Runs.{send_if_up}
 use Rattle.session_core.specs.State.{is_up}
 use Rattle.member_gate.specs.Answering.{name_at}
-use Rattle.member_gate.specs.Reporting.{cursor_at, messages_past}
+use Rattle.member_gate.specs.Reporting.{cursor_at, messages_past, AreFronts}
 use Rattle.replay_core.specs.Output.{frame_lines}
 use Rattle.replay_core.specs.Playing.{Playing, Member, reports_at}
 
@@ -40,3 +41,7 @@ after_pulls playing =
 
 abbrev pub lines_of_pulls : Playing → List ℕ
 lines_of_pulls playing = flat_map (pull_lines playing.config playing.moment playing.journals) playing.members
+
+-- how many reports a floor shows of each symbol of a config
+abbrev pub ShowsFronts : {F : Type 0} → (F → ℕ → SymbolView) → Config → F → List ℕ → Type 0
+ShowsFronts at config floor fronts = AreFronts (length config.symbols) (λ symbol. (at floor symbol).reports) fronts

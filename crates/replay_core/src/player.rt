@@ -32,6 +32,8 @@ pub struct Player<F: PlainFloor> {
     floor: F,
     /// By member.
     desks: Vec<Desk>,
+    /// Room for the number of reports of each symbol.
+    fronts: Vec<u32>,
     /// In milliseconds since 1970-01-01 00:00 UTC.
     moment: i64,
 }
@@ -105,12 +107,14 @@ impl<F: PlainFloor> Player<F> {
     {
         let floor = F::open(alloc, &config)?;
         let desks = desks_of(alloc, &config)?;
+        let fronts = Vec::new(alloc);
         let moment = config.begin;
         Ok(Player {
             alloc,
             config,
             floor,
             desks,
+            fronts,
             moment,
         })
     }
@@ -125,6 +129,7 @@ impl<F: PlainFloor> Player<F> {
             config,
             floor,
             mut desks,
+            fronts,
             ..
         } = self;
         tick_all(&config, desks.as_mut_slice(), moment, out)?;
@@ -133,6 +138,7 @@ impl<F: PlainFloor> Player<F> {
             config,
             floor,
             desks,
+            fronts,
             moment,
         })
     }
@@ -159,6 +165,7 @@ impl<F: PlainFloor> Player<F> {
             config,
             mut floor,
             desks,
+            fronts,
             moment,
         } = self;
         match submit(&mut floor, moment, symbol, command, steps) {
@@ -170,6 +177,7 @@ impl<F: PlainFloor> Player<F> {
             config,
             floor,
             desks,
+            fronts,
             moment,
         })
     }
@@ -195,6 +203,7 @@ impl<F: PlainFloor> Player<F> {
             config,
             mut floor,
             mut desks,
+            fronts,
             moment,
         } = self;
         let all = desks.as_mut_slice();
@@ -204,6 +213,7 @@ impl<F: PlainFloor> Player<F> {
             config,
             floor,
             desks,
+            fronts,
             moment,
         })
     }
@@ -219,6 +229,7 @@ impl<F: PlainFloor> Player<F> {
             config,
             floor,
             mut desks,
+            fronts,
             moment,
         } = self;
         open_desk(desks.as_mut_slice(), number);
@@ -227,6 +238,7 @@ impl<F: PlainFloor> Player<F> {
             config,
             floor,
             desks,
+            fronts,
             moment,
         }
     }
@@ -269,15 +281,17 @@ impl<F: PlainFloor> Player<F> {
             config,
             mut floor,
             mut desks,
+            mut fronts,
             moment,
         } = self;
         let all = desks.as_mut_slice();
-        pull_all(&config, &mut floor, all, moment, out)?;
+        pull_all(&config, &mut floor, all, &mut fronts, moment, out)?;
         Ok(Player {
             alloc,
             config,
             floor,
             desks,
+            fronts,
             moment,
         })
     }

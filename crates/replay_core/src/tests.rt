@@ -1,6 +1,9 @@
 //! Runs over files and sinks in memory.
 ghost use Rattle.std.specs.Prelude.{◌≡◌, ◌<◌};
 
+mod failing;
+mod hostile;
+mod in_pieces;
 mod minimums;
 mod prices;
 mod requests;
@@ -179,53 +182,6 @@ fn words_that_name_no_script_are_refused(rt: HostRuntime) -> Result<(), Fail> {
         let got = run(alloc, word, &mut shelf, &mut out, &mut err)?;
         assert!(rt; got == Status::BadWords);
         assert_eq!(rt; err.bytes(), b"pegreplay: bad words\n".as_slice());
-    }
-    Ok(())
-}
-
-#[test]
-fn failing_calls_end_the_run(rt: HostRuntime) -> Result<(), Fail> {
-    let alloc = rt.alloc();
-    for call in [1u64, 2, 3] {
-        let mut shelf = shelf(alloc, HEADER, 40, vec![in alloc; call]?)?;
-        let mut out = MemSink::new(alloc, Vec::new(alloc));
-        let mut err = MemSink::new(alloc, Vec::new(alloc));
-        let got = run(alloc, Some("s"), &mut shelf, &mut out, &mut err)?;
-        assert!(rt; got == Status::ReadFault, "at call {call}");
-        assert_eq!(rt; err.bytes(), b"pegreplay: read fault\n".as_slice());
-    }
-    let mut shelf = shelf(alloc, "PEGV 1\nX\n", 40, Vec::new(alloc))?;
-    let mut out = MemSink::new(alloc, Vec::new(alloc));
-    let mut err = MemSink::new(alloc, vec![in alloc; 1]?);
-    let got = run(alloc, Some("s"), &mut shelf, &mut out, &mut err)?;
-    assert!(rt; got == Status::WriteFault);
-    Ok(())
-}
-
-#[test]
-fn each_failing_call_leaves_a_beginning_of_the_transcript(rt: HostRuntime) -> Result<(), Fail> {
-    let alloc = rt.alloc();
-    let (script, trade) = first_trade(alloc)?;
-    // The shelf is begun, gives the script at once, and says that it is at its end.
-    for (call, size) in [(1u64, 0usize), (2, 0), (3, trade.len())] {
-        let mut shelf = shelf(alloc, script.as_str(), 4096, vec![in alloc; call]?)?;
-        let mut out = MemSink::new(alloc, Vec::new(alloc));
-        let mut err = MemSink::new(alloc, Vec::new(alloc));
-        let got = run(alloc, Some("s"), &mut shelf, &mut out, &mut err)?;
-        assert!(rt; got == Status::ReadFault, "at call {call}");
-        assert_eq!(rt; out.bytes().len(), size, "at call {call}");
-        assert_eq!(rt; err.bytes(), b"pegreplay: read fault\n".as_slice());
-    }
-    // Each of the eleven lines is put.
-    for call in 1u64..12 {
-        let mut shelf = shelf(alloc, script.as_str(), 4096, Vec::new(alloc))?;
-        let mut out = MemSink::new(alloc, vec![in alloc; call]?);
-        let mut err = MemSink::new(alloc, Vec::new(alloc));
-        let got = run(alloc, Some("s"), &mut shelf, &mut out, &mut err)?;
-        assert!(rt; got == Status::WriteFault, "at put {call}");
-        assert!(rt; trade.as_bytes().starts_with(out.bytes()), "at put {call}");
-        assert!(rt; out.bytes().len() < trade.len(), "at put {call}");
-        assert_eq!(rt; err.bytes(), b"pegreplay: write fault\n".as_slice());
     }
     Ok(())
 }

@@ -14,4 +14,10 @@ impl PlainFloor for PlainVenue<Book> {
     fn open(alloc: Global, config: &Config) -> Result<PlainVenue<Book>, NoMemory> {
         plain(alloc, HashSeed::fixed(), config)
     }
+
+    fn front(&self, symbol: u32) -> u32 {
+        let book = self.book(symbol);
+        book.parts_of_setting();
+        book.front()
+    }
 }

@@ -176,8 +176,9 @@ impl<E: Engine + Drop> BookOver<E> {
     }
 
     /// How many reports there are.
-    pub(crate) fn front(&self) -> u32
-        ensures { result ≡ length self.now.reports }
+    pub fn front(&self) -> u32
+        ensures list { result ≡ length self.now.reports }
+        ensures runs { result ≡ length (runs self.now.markets self.now.tick self.now.journal).reports }
     {
         reports_are_few();
         self.parts.log.as_slice().len() as u32

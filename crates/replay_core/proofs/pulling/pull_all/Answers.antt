@@ -2,7 +2,7 @@ use Rattle.std.proofs.Common.{◌≡◌, ◌<◌, ℤ, ◌++◌, sym, ◌∙◌,
 use Rattle.std.specs.List.{AllZip, flat_map}
 use Rattle.std.proofs.lemmas.Slice.Zip.{AllZip-long}
 use Rattle.member_gate.specs.Desks.{DeskView}
-use Rattle.replay_core.specs.Pulling.{pulled, pull_lines}
+use Rattle.replay_core.specs.Pulling.{pulled, pull_lines, ShowsFronts}
 use Rattle.replay_core.specs.Stages.{IsDeskOf}
 use Rattle.replay_core.proofs.OneByOne.{zip_more, text_more, zip_all, text_all, numbers_step, number_at, all_desks, read_twice}
 use Rattle.replay_core.proofs.pulling.pull_all.Goals as goal
@@ -34,6 +34,7 @@ loop-number-preserved g c =
           (c.loop-number.invariant.desks journals members s h) (c.loop-number.invariant.text journals members s h);
       numbers = numbers_step (λ (d : DeskView). d.member) c.loop-number.desks c.loop-number.number _ c.pull_desk.new.desk at
           c.in_ok-pull_desk.ensures.number ∙ c.loop-number.invariant.numbers;
+      fronts = subst (ShowsFronts g.F.Floor.at c.args.config.now c.pull_desk.new.floor) c.as_slice.ensures.value c.in_ok-pull_desk.ensures.fronts;
       mark = c.in_ok-pull_desk.ensures.mark ∙ c.loop-number.invariant.mark;
       journals = λ journals s. c.in_ok-pull_desk.ensures.journals journals (c.loop-number.invariant.journals journals s);
     }

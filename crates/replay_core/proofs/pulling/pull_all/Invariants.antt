@@ -3,7 +3,7 @@ use Rattle.std.specs.List.{AllZip, flat_map}
 use Rattle.venue_words.specs.declared.command.Event.{Event}
 use Rattle.replay_core.specs.PlainFloor.{ShowsJournals}
 use Rattle.replay_core.specs.Playing.{Member}
-use Rattle.replay_core.specs.Pulling.{pulled, pull_lines}
+use Rattle.replay_core.specs.Pulling.{pulled, pull_lines, ShowsFronts}
 use Rattle.replay_core.specs.Stages.{AreDesks, IsDeskOf}
 use Rattle.replay_core.proofs.pulling.pull_all.Given as goal
 
@@ -18,6 +18,7 @@ invariant-loop-number g l = record {
       → AllZip (IsDeskOf (length l.config.symbols)) l.initial.desks members
       → l.out.items ≡ l.initial.out.items ++ flat_map (pull_lines l.config l.moment journals) (take l.number members);
   numbers : AreDesks l.config l.desks;
+  fronts : ShowsFronts g.F.Floor.at l.config l.floor l.fronts.items;
   mark : g.F.Floor.mark l.floor ≡ g.F.Floor.mark l.initial.floor;
   journals : (journals : List (List Event)) → ShowsJournals g.F.Floor.at l.config l.initial.floor journals
       → ShowsJournals g.F.Floor.at l.config l.floor journals;
