@@ -1,6 +1,7 @@
 //! Runs over files and sinks in memory.
 ghost use Rattle.std.specs.Prelude.{◌≡◌, ◌<◌};
 
+mod loads;
 mod minimums;
 mod prices;
 mod requests;
@@ -33,19 +34,19 @@ fn counted<H: Shelf, K: Sink, E: Sink, L: Ledger>(
     replay(alloc, words, shelf, out, err, &mut steps)
 }
 
-/// Runs with one word, or with none.
+/// Runs with these words.
 fn run<H: Shelf, K: Sink, E: Sink>(
     alloc: Global,
-    word: Option<&str>,
+    words: &[&str],
     shelf: &mut H,
     out: &mut K,
     err: &mut E,
 ) -> Result<Status, AllocError> {
-    let mut words = Vec::new(alloc);
-    if let Some(word) = word {
-        words.push(String::from_str(alloc, word)?)?;
+    let mut texts = Vec::new(alloc);
+    for word in words {
+        texts.push(String::from_str(alloc, word)?)?;
     }
-    Ok(counted::<H, K, E, Brand>(alloc, words.as_slice(), shelf, out, err, Blank::new(1)))
+    Ok(counted::<H, K, E, Brand>(alloc, texts.as_slice(), shelf, out, err, Blank::new(1)))
 }
 
 fn shelf(alloc: Global, text: &str, piece: usize, fails: Vec<u64>) -> Result<MemShelf, AllocError>
@@ -66,7 +67,7 @@ fn played(alloc: Global, text: &str, piece: usize) -> Result<(Status, MemSink, M
     let mut shelf = shelf(alloc, text, piece, Vec::new(alloc))?;
     let mut out = MemSink::new(alloc, Vec::new(alloc));
     let mut err = MemSink::new(alloc, Vec::new(alloc));
-    let status = run(alloc, Some("s"), &mut shelf, &mut out, &mut err)?;
+    let status = run(alloc, &["s"], &mut shelf, &mut out, &mut err)?;
     Ok((status, out, err))
 }
 
@@ -170,34 +171,20 @@ fn two_mid_price_orders_trade_between_two_cents(rt: HostRuntime) -> Result<(), F
 }
 
 #[test]
-fn words_that_name_no_script_are_refused(rt: HostRuntime) -> Result<(), Fail> {
-    let alloc = rt.alloc();
-    for word in [None, Some("-x")] {
-        let mut shelf = shelf(alloc, HEADER, 64, Vec::new(alloc))?;
-        let mut out = MemSink::new(alloc, Vec::new(alloc));
-        let mut err = MemSink::new(alloc, Vec::new(alloc));
-        let got = run(alloc, word, &mut shelf, &mut out, &mut err)?;
-        assert!(rt; got == Status::BadWords);
-        assert_eq!(rt; err.bytes(), b"pegreplay: bad words\n".as_slice());
-    }
-    Ok(())
-}
-
-#[test]
 fn failing_calls_end_the_run(rt: HostRuntime) -> Result<(), Fail> {
     let alloc = rt.alloc();
     for call in [1u64, 2, 3] {
         let mut shelf = shelf(alloc, HEADER, 40, vec![in alloc; call]?)?;
         let mut out = MemSink::new(alloc, Vec::new(alloc));
         let mut err = MemSink::new(alloc, Vec::new(alloc));
-        let got = run(alloc, Some("s"), &mut shelf, &mut out, &mut err)?;
+        let got = run(alloc, &["s"], &mut shelf, &mut out, &mut err)?;
         assert!(rt; got == Status::ReadFault, "at call {call}");
         assert_eq!(rt; err.bytes(), b"pegreplay: read fault\n".as_slice());
     }
     let mut shelf = shelf(alloc, "PEGV 1\nX\n", 40, Vec::new(alloc))?;
     let mut out = MemSink::new(alloc, Vec::new(alloc));
     let mut err = MemSink::new(alloc, vec![in alloc; 1]?);
-    let got = run(alloc, Some("s"), &mut shelf, &mut out, &mut err)?;
+    let got = run(alloc, &["s"], &mut shelf, &mut out, &mut err)?;
     assert!(rt; got == Status::WriteFault);
     Ok(())
 }
@@ -211,7 +198,7 @@ fn each_failing_call_leaves_a_beginning_of_the_transcript(rt: HostRuntime) -> Re
         let mut shelf = shelf(alloc, script.as_str(), 4096, vec![in alloc; call]?)?;
         let mut out = MemSink::new(alloc, Vec::new(alloc));
         let mut err = MemSink::new(alloc, Vec::new(alloc));
-        let got = run(alloc, Some("s"), &mut shelf, &mut out, &mut err)?;
+        let got = run(alloc, &["s"], &mut shelf, &mut out, &mut err)?;
         assert!(rt; got == Status::ReadFault, "at call {call}");
         assert_eq!(rt; out.bytes().len(), size, "at call {call}");
         assert_eq!(rt; err.bytes(), b"pegreplay: read fault\n".as_slice());
@@ -221,7 +208,7 @@ fn each_failing_call_leaves_a_beginning_of_the_transcript(rt: HostRuntime) -> Re
         let mut shelf = shelf(alloc, script.as_str(), 4096, Vec::new(alloc))?;
         let mut out = MemSink::new(alloc, vec![in alloc; call]?);
         let mut err = MemSink::new(alloc, Vec::new(alloc));
-        let got = run(alloc, Some("s"), &mut shelf, &mut out, &mut err)?;
+        let got = run(alloc, &["s"], &mut shelf, &mut out, &mut err)?;
         assert!(rt; got == Status::WriteFault, "at put {call}");
         assert!(rt; trade.as_bytes().starts_with(out.bytes()), "at put {call}");
         assert!(rt; out.bytes().len() < trade.len(), "at put {call}");
