@@ -1,13 +1,8 @@
 -- From the outcome of a run to what `replay` answers.
-use Rattle.std.proofs.Common.{◌≡◌, ◌≢◌, ℕ, ◌⊎◌, List, Option, Some, None, IfSome, IsSome, IsNone, refl, sym, ◌∙◌, ap, inl, inr, subst}
-use Rattle.std.specs.Prelude.{option_and_then}
-use Rattle.io_edge.specs.Files.{Files, file_named, HasFile}
-use Rattle.program_words.specs.Words.{remaining}
-use Rattle.program_words.specs.declared.WordFault.{WordFault}
-use Rattle.program_words.specs.declared.WordFault.TheVariants as word
+use Rattle.std.proofs.Common.{◌≡◌, ◌≢◌, ℕ, ◌⊎◌, List, Option, Some, None, IfSome, refl, inl, inr, subst}
 use Rattle.replay_core.specs.Loading.{loaded, summary, Loaded, LoadOutcome}
 use Rattle.replay_core.specs.Play.{script}
-use Rattle.replay_core.specs.Statuses.{Told, Yields, refusal_of}
+use Rattle.replay_core.specs.Statuses.{Told, Yields}
 use Rattle.replay_core.specs.Telling.{Seen, Outcome, Ran}
 use Rattle.replay_core.specs.declared.status.Status.{Status}
 use Rattle.replay_core.specs.declared.status.Status.TheVariants.{Done, BadWords, BadLine, LimitLine, ReadFault, WriteFault, NoMemory}

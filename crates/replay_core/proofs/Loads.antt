@@ -1,5 +1,5 @@
 -- The load script, line by line, and what a load run comes to.
-use Rattle.std.proofs.Common.{◌≡◌, ◌⊎◌, ℕ, ◌+◌, ◌<◌, ◌≤◌, List, [], ◌∷◌, ◌++◌, length, map, drop, get_or, Option, Some, None, Result, Ok, Err, refl, sym, ◌∙◌, ap, subst, inl, inr, append-nil, length-append, arith}
+use Rattle.std.proofs.Common.{◌≡◌, ◌⊎◌, ℕ, ◌+◌, ◌<◌, ◌≤◌, List, [], ◌∷◌, ◌++◌, length, map, drop, get_or, Option, Some, None, Ok, Err, refl, sym, ◌∙◌, ap, subst, inl, inr, length-append, arith}
 use Rattle.std.proofs.lemmas.List.{drop_more, drop_all}
 use Rattle.std.proofs.lemmas.List.FromFn.{length-map-range_with_len}
 use Rattle.std.specs.List.{range_with_len}
@@ -20,14 +20,14 @@ use Rattle.replay_core.specs.Reading.{IsAt}
 use Rattle.replay_core.specs.Stages.{Kept, StandsFor}
 use Rattle.replay_core.specs.Statuses.{status_of}
 use Rattle.replay_core.specs.Summary.{summary_of, summary_text}
-use Rattle.replay_core.specs.Telling.{Seen, seen}
+use Rattle.replay_core.specs.Telling.{seen}
 use Rattle.replay_core.specs.declared.phase.Phase.{Phase}
 use Rattle.replay_core.specs.declared.phase.Phase.TheVariants as phase
 use Rattle.replay_core.specs.declared.status.Status.{Status}
-use Rattle.replay_core.specs.declared.status.Status.TheVariants.{Done, BadWords, BadLine, LimitLine, ReadFault, WriteFault, NoMemory}
+use Rattle.replay_core.specs.declared.status.Status.TheVariants.{Done, BadLine, WriteFault, NoMemory}
 use Rattle.replay_core.proofs.Leading.{onto_nothing, onto_onto}
 use Rattle.replay_core.proofs.LineByLine.{worked_line, refused_line, either_steps}
-use Rattle.replay_core.proofs.Outcomes.{prefix_whole, prefix_none}
+use Rattle.replay_core.proofs.Outcomes.{prefix_none}
 
 -- ---- the lines
 
@@ -204,9 +204,12 @@ loaded_head at orders quotes told before after line reader header x is e =
     let here : line ≡ x.place.lines + 1 = e ∙ ap (λ (n : ℕ). n + 1) x.there.lines in
     let stage = subst (λ (p : Phase _). IsAtStage at p x.place.stage) is x.there.stage in
     record {
-      outcome = (refl, ap (λ (p : Played). p.fault) (behind_lines at (loaded orders quotes) before after reader x
-          ∙ ap (onto x.text x.spent) (end_of_head at (x.place.lines + 1) header x.place.stage stage))
-          ∙ ap (λ (n : ℕ). Some (fault.Bad n NoEnd)) (sym here));
+      outcome = (
+        refl,
+        ap (λ (p : Played). p.fault) (behind_lines at (loaded orders quotes) before after reader x
+            ∙ ap (onto x.text x.spent) (end_of_head at (x.place.lines + 1) header x.place.stage stage))
+            ∙ ap (λ (n : ℕ). Some (fault.Bad n NoEnd)) (sym here),
+      );
       steps = loads_within at (loaded orders quotes) [] before after reader x;
     }
 

@@ -5,7 +5,7 @@ use Rattle.venue_words.specs.declared.config.Config.{Config}
 use Rattle.venue_words.specs.declared.report.Report.{Report}
 use Rattle.venue_words.specs.Floors.{SymbolView}
 use Rattle.eager_meaning.specs.State.{State, resting}
-use Rattle.eager_meaning.specs.Step.{Run, runs}
+use Rattle.eager_meaning.specs.Step.{runs}
 use Rattle.eager_meaning.specs.Work.{groups}
 use Rattle.replay_core.specs.Playing.{Playing, journal_at, run_in, reports_in}
 use Rattle.replay_core.specs.Stages.{Kept, StandsFor}
@@ -50,4 +50,3 @@ summed at state kept playing s l x =
     shown_counted kept.config (at kept.floor 0).journal (at kept.floor 0).reports (state kept.floor 0) x.reports x.state_is
     ∙ ap (λ (c : Config). counted_in c (at kept.floor 0).journal) s.config
     ∙ ap (counted_in playing.config) (s.journals 0 inside)
-

@@ -21,7 +21,7 @@ pub trait PlainFloor: Floor + Drop {
         ensures empty { IfOk result (λ floor. (symbol : ℕ) → (Self.at floor symbol).journal ≡ []) };
 
     /// How many events a symbol's book has taken.
-    fn events(&self, symbol: u32) -> u32
+    fn events(&self, symbol: u32) -> usize
         requires { symbol < length (Self.mark self.now).setup.limits }
         ensures { result ≡ length (Self.at self.now symbol).journal };
 

@@ -8,7 +8,7 @@ use venue_words::{Kind, Report, Side};
 /// What a symbol's book came to.
 #[derive(Clone, Copy, Debug, PartialEq, Eq)]
 pub struct Summary {
-    pub events: u32,
+    pub events: usize,
     /// New orders that were accepted.
     pub accepted: usize,
     /// New orders that were rejected.
@@ -24,7 +24,7 @@ pub struct Summary {
 
 impl Summary {
     /// Sums up a book of so many events, from its reports, its resting orders and its peg groups.
-    pub fn of(events: u32, reports: &[Report], resting: u32, groups: u32) -> Summary
+    pub fn of(events: usize, reports: &[Report], resting: u32, groups: u32) -> Summary
         ensures { result ≡ counted events reports.now resting groups }
     {
         let mut accepted = 0usize;

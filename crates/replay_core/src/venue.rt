@@ -15,8 +15,8 @@ impl PlainFloor for PlainVenue<Book> {
         plain(alloc, HashSeed::fixed(), config)
     }
 
-    fn events(&self, symbol: u32) -> u32 {
-        self.book(symbol).journal().len() as u32
+    fn events(&self, symbol: u32) -> usize {
+        self.book(symbol).journal().len()
     }
 
     fn reports(&self, symbol: u32) -> &[Report] {

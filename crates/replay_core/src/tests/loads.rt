@@ -44,7 +44,14 @@ fn words_of_another_form_are_refused(rt: HostRuntime) -> Result<(), Fail> {
         &["load", "1", "4294967297"],
     ];
     for words in cases {
-        check(&rt, rt.alloc(), words, Status::BadWords, "", "pegreplay: bad words\n")?;
+        check(
+            &rt,
+            rt.alloc(),
+            words,
+            Status::BadWords,
+            "",
+            "pegreplay: bad words\n",
+        )?;
     }
     Ok(())
 }
@@ -81,13 +88,28 @@ fn load_runs_are_summed_up(rt: HostRuntime) -> Result<(), Fail> {
 
 #[test]
 fn the_largest_load_is_played(rt: HostRuntime) -> Result<(), Fail> {
-    let line = "events 400002 accepted 200001 rejected 0 trades 10 shares 1000 resting 199990 groups 8\n";
-    check(&rt, rt.alloc(), &["load", "200000", "200000"], Status::Done, line, "")
+    let line =
+        "events 400002 accepted 200001 rejected 0 trades 10 shares 1000 resting 199990 groups 8\n";
+    check(
+        &rt,
+        rt.alloc(),
+        &["load", "200000", "200000"],
+        Status::Done,
+        line,
+        "",
+    )
 }
 
 #[test]
 fn load_alone_names_a_script(rt: HostRuntime) -> Result<(), Fail> {
-    check(&rt, rt.alloc(), &["load"], Status::ReadFault, "", "pegreplay: read fault\n")
+    check(
+        &rt,
+        rt.alloc(),
+        &["load"],
+        Status::ReadFault,
+        "",
+        "pegreplay: read fault\n",
+    )
 }
 
 #[test]

@@ -1,4 +1,4 @@
-use Rattle.std.proofs.Common.{◌≡◌, ◌+◌, ◌-◌, ◌<◌, ℕ, List, [], length, get_or, sym, ◌∙◌, ap, subst, arith}
+use Rattle.std.proofs.Common.{◌≡◌, ◌+◌, ◌-◌, ◌<◌, ℕ, List, [], length, get_or, ◌∙◌, ap, subst, arith}
 use Rattle.script_text.specs.Load.{load_lines}
 use Rattle.replay_core.specs.Loading.{loaded, LoadsTo}
 use Rattle.replay_core.proofs.Loads.{line_count, no_more, loads_first, loads_on, loads_fault, loads_stopped}

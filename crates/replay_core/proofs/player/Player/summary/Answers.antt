@@ -1,5 +1,5 @@
-use Rattle.std.proofs.Common.{◌≡◌, ◌↔◌, ◌<◌, ◌∙◌, Bool, true, false, IsTrue, List, [], ◌∷◌, sym, ap, refl, subst, length, arith, rules}
-use Rattle.replay_core.specs.Stages.{Kept, StandsFor, kept_of}
+use Rattle.std.proofs.Common.{◌≡◌, ◌↔◌, ◌<◌, ◌∙◌, Bool, true, false, IsTrue, List, [], ◌∷◌, sym, refl, subst, length, arith, rules}
+use Rattle.replay_core.specs.Stages.{Kept, StandsFor}
 use Rattle.replay_core.proofs.Summing.{none_summed, summed}
 use Rattle.replay_core.proofs.player.Player.summary.Goals as goal
 
