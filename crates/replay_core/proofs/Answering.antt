@@ -1,17 +1,12 @@
--- From the outcome of a script to what `replay` answers.
-use Rattle.std.proofs.Common.{◌≡◌, ◌≢◌, ℕ, ◌⊎◌, List, Option, Some, None, IfSome, IsSome, IsNone, refl, sym, ◌∙◌, ap, inl, inr, subst}
-use Rattle.std.specs.Prelude.{option_and_then}
-use Rattle.io_edge.specs.Files.{Files, file_named, HasFile}
-use Rattle.program_words.specs.Words.{remaining}
-use Rattle.program_words.specs.declared.WordFault.{WordFault}
-use Rattle.program_words.specs.declared.WordFault.TheVariants as word
-use Rattle.replay_core.specs.Causes.{form_of, script_named, script_told, bytes_named, LacksScript}
+-- From the outcome of a run to what `replay` answers.
+use Rattle.std.proofs.Common.{◌≡◌, ◌≢◌, ℕ, ◌⊎◌, List, Option, Some, None, IfSome, refl, inl, inr, subst}
+use Rattle.replay_core.specs.Loading.{loaded, summary, Loaded, LoadOutcome}
 use Rattle.replay_core.specs.Play.{script}
-use Rattle.replay_core.specs.Statuses.{Told, Yields, refusal_of}
+use Rattle.replay_core.specs.Statuses.{Told, Yields}
 use Rattle.replay_core.specs.Telling.{Seen, Outcome, Ran}
 use Rattle.replay_core.specs.declared.status.Status.{Status}
 use Rattle.replay_core.specs.declared.status.Status.TheVariants.{Done, BadWords, BadLine, LimitLine, ReadFault, WriteFault, NoMemory}
-use Rattle.replay_core.proofs.Outcomes.{prefix_whole, no_room}
+use Rattle.replay_core.proofs.Outcomes.{prefix_whole, prefix_none}
 
 outcome_told : (bytes : List ℕ) (old new left : Option (List ℕ)) (status result : Status) (rose : Type 0)
     → Told status result rose → Outcome bytes old new left status → Outcome bytes old new left result
@@ -65,3 +60,46 @@ missing_told status result rose P t x = (elim x.0 [ inl e ↦ inl (rw e at t) | 
 pub other_told : (status result : Status) (rose P : Type 0) → Told status result rose
     → ((status ≡ BadWords) ⊎ (status ≡ NoMemory)) × P → Yields BadWords result rose × P
 other_told status result rose P t x = (elim x.0 [ inl e ↦ (rw e at t) | inr e ↦ inl (inr (rw e at t)) ], x.1)
+
+-- ---- a load run
+
+load_told : (orders quotes : ℕ) (old new : Option (List ℕ)) (status result : Status) (rose : Type 0)
+    → Told status result rose → LoadOutcome orders quotes old new status → LoadOutcome orders quotes old new result
+load_told orders quotes old new Done result rose t x = rw t x
+load_told orders quotes old new BadWords result rose t x = absurd x
+load_told orders quotes old new (BadLine line cause) result rose (inl (inl e)) x = rw e x
+load_told orders quotes old new (BadLine line cause) result rose (inl (inr e)) x = rw (e, x.0) (prefix_none old (summary orders quotes))
+load_told orders quotes old new (BadLine line cause) result rose (inr e) x = rw (e.0, x.0) (prefix_none old (summary orders quotes))
+load_told orders quotes old new (LimitLine line which) result rose (inl (inl e)) x = rw e x
+load_told orders quotes old new (LimitLine line which) result rose (inl (inr e)) x = rw (e, x.0) (prefix_none old (summary orders quotes))
+load_told orders quotes old new (LimitLine line which) result rose (inr e) x = rw (e.0, x.0) (prefix_none old (summary orders quotes))
+load_told orders quotes old new ReadFault result rose t x = absurd x
+load_told orders quotes old new WriteFault result rose t x = rw t x
+load_told orders quotes old new NoMemory result rose t x = rw t x
+
+pub loaded_told : (orders quotes : ℕ) (old new : Seen) (status result : Status) (rose : Type 0)
+    → Told status result rose → Loaded orders quotes old new status → Loaded orders quotes old new result
+loaded_told orders quotes old new status result rose t x =
+    record { outcome = load_told orders quotes old.told new.told status result rose t x.outcome; steps = x.steps }
+
+load_done_or_not : (orders quotes : ℕ) (old new : Option (List ℕ)) (result : Status) → LoadOutcome orders quotes old new result
+    → (loaded orders quotes).fault ≡ None → result ≢ WriteFault → (result ≡ Done) ⊎ (result ≡ NoMemory)
+load_done_or_not orders quotes old new Done x e w = inl refl
+load_done_or_not orders quotes old new BadWords x e w = absurd x
+load_done_or_not orders quotes old new (BadLine line cause) x e w = let both = x.1 in absurd (cc)
+load_done_or_not orders quotes old new (LimitLine line which) x e w = let both = x.1 in absurd (cc)
+load_done_or_not orders quotes old new ReadFault x e w = absurd x
+load_done_or_not orders quotes old new WriteFault x e w = absurd (w refl)
+load_done_or_not orders quotes old new NoMemory x e w = inr refl
+
+-- what is left where the load script is whole and no count rose
+pub load_complete : (orders quotes : ℕ) (old new : Seen) (result : Status) → Loaded orders quotes old new result
+    → (loaded orders quotes).fault ≡ None → result ≢ WriteFault → (result ≡ Done) ⊎ (result ≡ NoMemory)
+load_complete orders quotes old new result x e w = load_done_or_not orders quotes old.told new.told result x.outcome e w
+
+-- a load run reads nothing
+pub no_read : (orders quotes : ℕ) (old new : Seen) (result : Status) → Loaded orders quotes old new result → result ≢ ReadFault
+no_read orders quotes old new result x is = subst (LoadOutcome orders quotes old.told new.told) is x.outcome
+
+pub not_bad_words : (orders quotes : ℕ) (old new : Seen) (result : Status) → Loaded orders quotes old new result → result ≢ BadWords
+not_bad_words orders quotes old new result x is = subst (LoadOutcome orders quotes old.told new.told) is x.outcome

@@ -16,5 +16,7 @@ pub mod Turns
 pub mod Steps
 pub mod Going
 pub mod Outcomes
+pub mod Loads
+pub mod Summing
 pub mod Answering
 pub mod Settings

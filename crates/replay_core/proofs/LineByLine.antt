@@ -1,5 +1,5 @@
 -- What a line, or its beginning, does to what a script makes.
-use Rattle.std.proofs.Common.{◌≡◌, ℕ, ◌+◌, ◌<◌, ◌≤◌, ◌⊎◌, ◌==◌, ◌||◌, Bool, true, false, List, [], ◌∷◌, ◌++◌, length, take, drop, Option, Ok, Err, Result, refl, sym, ◌∙◌, ap, subst, append_assoc, inl, inr, arith}
+use Rattle.std.proofs.Common.{◌≡◌, ℕ, ◌+◌, ◌<◌, ◌≤◌, ◌⊎◌, ◌==◌, ◌||◌, Bool, true, false, List, [], ◌∷◌, ◌++◌, length, take, drop, Ok, Err, Result, refl, sym, ◌∙◌, ap, append_assoc, inl, inr, arith}
 use Rattle.std.proofs.lemmas.List.{take-append-drop}
 use Rattle.std.specs.Io.KnownBytes.{Appends}
 use Rattle.io_edge.specs.Grows.{AppendsPrefix}
@@ -27,11 +27,11 @@ line_ahead : (p : Place) (held part more : List ℕ) → has_end held ≡ false 
 line_ahead p held part more e h =
     rw (← append_assoc held part (10 ∷ more)) (played_step p (held ++ part) more (clear_append held part e h))
 
-worked_line : (s : Stepped) (q : Place) (text : List ℕ) (next : Place → Played) → s.result ≡ Ok (q, text)
+pub worked_line : (s : Stepped) (q : Place) (text : List ℕ) (next : Place → Played) → s.result ≡ Ok (q, text)
     → after_line s next ≡ onto text s.steps (next q)
 worked_line s q text next e = ap (λ (r : Result (Place × List ℕ) LineFault). after_result s.steps r next) e
 
-refused_line : (s : Stepped) (fault : LineFault) (next : Place → Played) → s.result ≡ Err fault
+pub refused_line : (s : Stepped) (fault : LineFault) (next : Place → Played) → s.result ≡ Err fault
     → after_line s next ≡ onto [] s.steps (stopped fault)
 refused_line s fault next e = ap (λ (r : Result (Place × List ℕ) LineFault). after_result s.steps r next) e
 
@@ -86,7 +86,7 @@ halts_refused a b f NoMemory spent told steps most h = record {
   counted = λ more. omega (arith, steps, most more);
 }
 
-either_steps : (n : ℕ) (r : Result (Place × List ℕ) LineFault) (next : Place → Played) → n ≤ (after_result n r next).steps
+pub either_steps : (n : ℕ) (r : Result (Place × List ℕ) LineFault) (next : Place → Played) → n ≤ (after_result n r next).steps
 either_steps n (Ok x) next = omega arith
 either_steps n (Err fault) next = omega arith
 

@@ -1,8 +1,10 @@
-//! Where no call of the outside fails, a script that is whole is played to its end.
-ghost use Rattle.std.specs.Prelude.{◌≡◌, ◌≢◌, ◌⊎◌, None, IfSome};
+//! Where no call of the outside fails, what is whole is played to its end.
+ghost use Rattle.std.specs.Prelude.{◌≡◌, ◌≢◌, ◌⊎◌, ℕ, None, Some, IfSome};
 ghost use Rattle.venue_words.specs.Causes.{Rose};
 ghost use Rattle.program_words.specs.Words.{texts};
 ghost use Rattle.replay_core.specs.Causes.{script_told};
+ghost use Rattle.replay_core.specs.Loading.{loaded};
+ghost use Rattle.replay_core.specs.Plan.{Load, plan_of};
 ghost use Rattle.replay_core.specs.Play.{script};
 
 use crate::replay::replay;
@@ -12,7 +14,7 @@ use std::alloc::Global;
 use std::sync::ledger::Ledger;
 use venue_words::Steps;
 
-/// A whole script is played to its end where no count of faults rises, but for want of memory.
+/// A whole script, or a load run, is played to its end where no count of faults rises, but for want of memory.
 pub fn replay_whole<H: Shelf, K: Sink, E: Sink, L: Ledger>(
     alloc: Global,
     words: &[String],
@@ -21,10 +23,13 @@ pub fn replay_whole<H: Shelf, K: Sink, E: Sink, L: Ledger>(
     err: &mut E,
     steps: &mut Steps<L>,
 ) -> Status
-    ensures { (Rose (H.faults shelf.old) (H.faults shelf.new) → ⊥) → (Rose (K.faults out.old) (K.faults out.new) → ⊥) →
+    ensures script { (Rose (H.faults shelf.old) (H.faults shelf.new) → ⊥) → (Rose (K.faults out.old) (K.faults out.new) → ⊥) →
         (Rose (E.faults err.old) (E.faults err.new) → ⊥) →
         IfSome (script_told (H.told shelf.old) (texts words.now)) (λ bytes.
         (script bytes).fault ≡ None → (result ≡ Status.Done) ⊎ (result ≡ Status.NoMemory)) }
+    ensures load { (Rose (K.faults out.old) (K.faults out.new) → ⊥) → (Rose (E.faults err.old) (E.faults err.new) → ⊥) →
+        (orders quotes : ℕ) → plan_of (texts words.now) ≡ Some (Load orders quotes) →
+        (loaded orders quotes).fault ≡ None → (result ≡ Status.Done) ⊎ (result ≡ Status.NoMemory) }
 {
     replay(alloc, words, shelf, out, err, steps)
 }
@@ -38,8 +43,10 @@ pub fn replay_surely<L: Ledger>(
     err: &mut SureSink,
     steps: &mut Steps<L>,
 ) -> Status
-    ensures { IfSome (script_told (⟦<SureShelf as Shelf>⟧.told shelf.old) (texts words.now)) (λ bytes.
+    ensures script { IfSome (script_told (⟦<SureShelf as Shelf>⟧.told shelf.old) (texts words.now)) (λ bytes.
         (script bytes).fault ≡ None → (result ≡ Status.Done) ⊎ (result ≡ Status.NoMemory)) }
+    ensures load { (orders quotes : ℕ) → plan_of (texts words.now) ≡ Some (Load orders quotes) →
+        (loaded orders quotes).fault ≡ None → (result ≡ Status.Done) ⊎ (result ≡ Status.NoMemory) }
 {
     replay(alloc, words, shelf, out, err, steps)
 }

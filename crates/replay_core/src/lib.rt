@@ -2,10 +2,12 @@
 #![tactic(auto)]
 
 pub mod complete;
+pub mod loading;
 pub mod output;
 pub mod phase;
 pub mod pieces;
 pub mod plain_floor;
+pub mod plan;
 pub mod player;
 pub mod pulling;
 pub mod reading;
@@ -13,6 +15,7 @@ pub mod replay;
 pub mod replaying;
 pub mod status;
 pub mod submitting;
+pub mod summary;
 pub mod taking;
 pub mod telling;
 pub mod ticking;

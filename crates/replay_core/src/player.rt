@@ -11,10 +11,12 @@ ghost use Rattle.replay_core.specs.PlayLine.{play_line};
 ghost use Rattle.replay_core.specs.Playing.{Playing, Member, before_body};
 ghost use Rattle.replay_core.specs.Pulling.{after_pulls, lines_of_pulls};
 ghost use Rattle.replay_core.specs.Stages.{StandsFor, IsDeskOf, fresh_desks};
+ghost use Rattle.replay_core.specs.Summary.{summary_of};
 
 use crate::plain_floor::PlainFloor;
 use crate::pulling::pull_all;
 use crate::submitting::submit;
+use crate::summary::Summary;
 use crate::taking::take_piece;
 use crate::ticking::tick_all;
 use member_gate::{Desk, DeskRefusal};
@@ -320,5 +322,20 @@ impl<F: PlainFloor> Player<F> {
             Err(refusal) => return Err(refusal_at(line, refusal)),
         };
         Ok(player.pull(out)?)
+    }
+
+    /// What the book of the first symbol came to; all 0 where there is no symbol.
+    pub fn summary(&self) -> Summary
+        ensures { (playing : Playing) → StandsFor F.at self.now playing → result ≡ summary_of playing }
+    {
+        if self.config.symbols.is_empty() {
+            return Summary::of(0, &[], 0, 0);
+        }
+        Summary::of(
+            self.floor.events(0),
+            self.floor.reports(0),
+            self.floor.resting(0),
+            self.floor.groups(0),
+        )
     }
 }

@@ -1,15 +1,19 @@
 //! The top call.
-ghost use Rattle.std.specs.Prelude.{◌≡◌, ◌≢◌, ◌≤◌, ◌<◌, ◌⊎◌, ℕ, List, None, Some, length, map, IfOk, IfSome, IsNone, IsTrue, MatchOption};
+ghost use Rattle.std.specs.Prelude.{◌≡◌, ◌≢◌, ◌≤◌, ◌<◌, ◌⊎◌, ℕ, List, None, Some, length, IfOk, IfSome, IsNone, IsTrue};
 ghost use Rattle.std.specs.Io.KnownBytes.{Appends};
 ghost use Rattle.venue_words.specs.Causes.{Rose};
 ghost use Rattle.io_edge.specs.Files.{HasFile, file_named};
 ghost use Rattle.program_words.specs.Words.{texts};
-ghost use Rattle.replay_core.specs.Causes.{form_of, script_named, script_told, LacksScript};
+ghost use Rattle.replay_core.specs.Causes.{script_named, script_told, LacksScript};
+ghost use Rattle.replay_core.specs.Loading.{Loaded};
+ghost use Rattle.replay_core.specs.Plan.{Load, plan_of};
 ghost use Rattle.replay_core.specs.Statuses.{status_text, Yields, refusal_of};
 ghost use Rattle.replay_core.specs.Telling.{Ran, seen};
 
+use crate::loading::play_load;
 use crate::pieces::before_script;
 use crate::plain_floor::PlainFloor;
+use crate::plan::{Plan, plan_of};
 use crate::replaying::play_file;
 use crate::status::Status;
 use crate::telling::tell;
@@ -24,18 +28,7 @@ use venue_words::Steps;
 /// The most bytes that are read at once.
 const READ_BYTES: usize = 65_536;
 
-/// The script that one word names.
-fn script_word<'a>(words: &[&'a str]) -> Option<&'a str>
-    ensures { MatchOption result (form_of (map (λ word. word.now) words.now) ≡ None)
-        (λ name. form_of (map (λ word. word.now) words.now) ≡ Some name.now) }
-{
-    match words {
-        [name] => Some(name),
-        _ => None,
-    }
-}
-
-/// Why words name no script.
+/// Why words have no form.
 fn refusal_of(fault: WordFault) -> Status
     ensures { result ≡ refusal_of fault }
 {
@@ -83,7 +76,7 @@ fn play_named<F: PlainFloor, H: Shelf, K: Sink, L: Ledger>(
     }
 }
 
-/// Reads the words, and plays the script that they name.
+/// Reads the words, and plays what they ask for.
 fn answer<F: PlainFloor, H: Shelf, K: Sink, L: Ledger>(
     alloc: Global,
     words: &[String],
@@ -93,8 +86,10 @@ fn answer<F: PlainFloor, H: Shelf, K: Sink, L: Ledger>(
 ) -> Status
     ensures ran { IfSome (script_told (H.told shelf.old) (texts words.now)) (λ bytes.
         Ran bytes (seen (K.told out.old) steps.old) (seen (K.told out.new) steps.new) (H.left shelf.new) result) }
-    ensures words { result ≡ Status.BadWords → script_named (texts words.now) ≡ None }
-    ensures other { script_named (texts words.now) ≡ None →
+    ensures load { (orders quotes : ℕ) → plan_of (texts words.now) ≡ Some (Load orders quotes) →
+        Loaded orders quotes (seen (K.told out.old) steps.old) (seen (K.told out.new) steps.new) result }
+    ensures words { result ≡ Status.BadWords → plan_of (texts words.now) ≡ None }
+    ensures other { plan_of (texts words.now) ≡ None →
         ((result ≡ Status.BadWords) ⊎ (result ≡ Status.NoMemory)) × (K.told out.new ≡ K.told out.old) }
     ensures read { result ≡ Status.ReadFault → Rose (H.faults shelf.old) (H.faults shelf.new) }
     ensures write { result ≡ Status.WriteFault → Rose (K.faults out.old) (K.faults out.new) }
@@ -109,8 +104,11 @@ fn answer<F: PlainFloor, H: Shelf, K: Sink, L: Ledger>(
         Ok(read) => read,
         Err(fault) => return refusal_of(fault),
     };
-    match script_word(read.as_slice()) {
-        Some(name) => play_named::<F, H, K, L>(alloc, name, shelf, out, steps),
+    match plan_of(read.as_slice()) {
+        Some(Plan::Script(name)) => play_named::<F, H, K, L>(alloc, name, shelf, out, steps),
+        Some(Plan::Load { orders, quotes }) => {
+            play_load::<F, K, L>(alloc, orders, quotes, out, steps)
+        }
         None => Status::BadWords,
     }
 }
@@ -128,9 +126,13 @@ pub fn replay_over<F: PlainFloor, H: Shelf, K: Sink, E: Sink, L: Ledger>(
     ensures ran { IfSome (script_told (H.told shelf.old) (texts words.now)) (λ bytes.
         Ran bytes (seen (K.told out.old) steps.old) (seen (K.told out.new) steps.new) (H.left shelf.new) result) }
 
+    // For a load run, what the load script makes: one line, why it is not there, and the steps.
+    ensures load { (orders quotes : ℕ) → plan_of (texts words.now) ≡ Some (Load orders quotes) →
+        Loaded orders quotes (seen (K.told out.old) steps.old) (seen (K.told out.new) steps.new) result }
+
     // Words of another form.
-    ensures bad_words { result ≡ Status.BadWords → script_named (texts words.now) ≡ None }
-    ensures other_words { script_named (texts words.now) ≡ None →
+    ensures bad_words { result ≡ Status.BadWords → plan_of (texts words.now) ≡ None }
+    ensures other_words { plan_of (texts words.now) ≡ None →
         Yields Status.BadWords result (Rose (E.faults err.old) (E.faults err.new)) × (K.told out.new ≡ K.told out.old) }
 
     // Faults come only where a count rose.
@@ -153,8 +155,9 @@ pub fn replay_over<F: PlainFloor, H: Shelf, K: Sink, E: Sink, L: Ledger>(
     tell(alloc, status, err)
 }
 
-/// Plays the script that the words name: reads it from the shelf, puts its transcript to `out` line by line, and
-/// puts the text of the status that ends the run to `err`, once. The words are those behind the program's name.
+/// Plays what the words ask for. A script is read from the shelf, and its transcript is put to `out` line by line. A load
+/// run plays the load script and puts one line that sums it up. The text of the status that ends the run is put to `err`,
+/// once. The words are those behind the program's name.
 pub fn replay<H: Shelf, K: Sink, E: Sink, L: Ledger>(
     alloc: Global,
     words: &[String],
@@ -167,9 +170,13 @@ pub fn replay<H: Shelf, K: Sink, E: Sink, L: Ledger>(
     ensures ran { IfSome (script_told (H.told shelf.old) (texts words.now)) (λ bytes.
         Ran bytes (seen (K.told out.old) steps.old) (seen (K.told out.new) steps.new) (H.left shelf.new) result) }
 
+    // For a load run, what the load script makes: one line, why it is not there, and the steps.
+    ensures load { (orders quotes : ℕ) → plan_of (texts words.now) ≡ Some (Load orders quotes) →
+        Loaded orders quotes (seen (K.told out.old) steps.old) (seen (K.told out.new) steps.new) result }
+
     // Words of another form.
-    ensures bad_words { result ≡ Status.BadWords → script_named (texts words.now) ≡ None }
-    ensures other_words { script_named (texts words.now) ≡ None →
+    ensures bad_words { result ≡ Status.BadWords → plan_of (texts words.now) ≡ None }
+    ensures other_words { plan_of (texts words.now) ≡ None →
         Yields Status.BadWords result (Rose (E.faults err.old) (E.faults err.new)) × (K.told out.new ≡ K.told out.old) }
 
     // Faults come only where a count rose.

@@ -4,6 +4,7 @@ ghost use Rattle.std.specs.Prelude.{◌≡◌, ◌<◌};
 mod failing;
 mod hostile;
 mod in_pieces;
+mod loads;
 mod minimums;
 mod prices;
 mod requests;
@@ -36,19 +37,19 @@ fn counted<H: Shelf, K: Sink, E: Sink, L: Ledger>(
     replay(alloc, words, shelf, out, err, &mut steps)
 }
 
-/// Runs with one word, or with none.
+/// Runs with these words.
 fn run<H: Shelf, K: Sink, E: Sink>(
     alloc: Global,
-    word: Option<&str>,
+    words: &[&str],
     shelf: &mut H,
     out: &mut K,
     err: &mut E,
 ) -> Result<Status, AllocError> {
-    let mut words = Vec::new(alloc);
-    if let Some(word) = word {
-        words.push(String::from_str(alloc, word)?)?;
+    let mut texts = Vec::new(alloc);
+    for word in words {
+        texts.push(String::from_str(alloc, word)?)?;
     }
-    Ok(counted::<H, K, E, Brand>(alloc, words.as_slice(), shelf, out, err, Blank::new(1)))
+    Ok(counted::<H, K, E, Brand>(alloc, texts.as_slice(), shelf, out, err, Blank::new(1)))
 }
 
 fn shelf(alloc: Global, text: &str, piece: usize, fails: Vec<u64>) -> Result<MemShelf, AllocError>
@@ -69,7 +70,7 @@ fn played(alloc: Global, text: &str, piece: usize) -> Result<(Status, MemSink, M
     let mut shelf = shelf(alloc, text, piece, Vec::new(alloc))?;
     let mut out = MemSink::new(alloc, Vec::new(alloc));
     let mut err = MemSink::new(alloc, Vec::new(alloc));
-    let status = run(alloc, Some("s"), &mut shelf, &mut out, &mut err)?;
+    let status = run(alloc, &["s"], &mut shelf, &mut out, &mut err)?;
     Ok((status, out, err))
 }
 
@@ -168,20 +169,6 @@ fn two_mid_price_orders_trade_between_two_cents(rt: HostRuntime) -> Result<(), F
         assert!(rt; got == Status::Done);
         assert_eq!(rt; out.bytes(), trade.as_bytes());
         assert_eq!(rt; err.bytes(), b"".as_slice());
-    }
-    Ok(())
-}
-
-#[test]
-fn words_that_name_no_script_are_refused(rt: HostRuntime) -> Result<(), Fail> {
-    let alloc = rt.alloc();
-    for word in [None, Some("-x")] {
-        let mut shelf = shelf(alloc, HEADER, 64, Vec::new(alloc))?;
-        let mut out = MemSink::new(alloc, Vec::new(alloc));
-        let mut err = MemSink::new(alloc, Vec::new(alloc));
-        let got = run(alloc, word, &mut shelf, &mut out, &mut err)?;
-        assert!(rt; got == Status::BadWords);
-        assert_eq!(rt; err.bytes(), b"pegreplay: bad words\n".as_slice());
     }
     Ok(())
 }

@@ -40,7 +40,7 @@ fn played(
     let mut shelf = shelf(alloc, script, PIECE, vec![in alloc; fails.0]?)?;
     let mut out = MemSink::new(alloc, vec![in alloc; fails.1]?);
     let mut err = MemSink::new(alloc, vec![in alloc; fails.2]?);
-    let status = run(alloc, Some("s"), &mut shelf, &mut out, &mut err)?;
+    let status = run(alloc, &["s"], &mut shelf, &mut out, &mut err)?;
     Ok((status, out, err))
 }
 
@@ -132,7 +132,7 @@ fn a_refused_line_whose_text_cannot_be_told_is_a_write_fault(rt: HostRuntime) ->
     let mut shelf = shelf(alloc, HEADER, PIECE, Vec::new(alloc))?;
     let mut out = MemSink::new(alloc, Vec::new(alloc));
     let mut err = MemSink::new(alloc, vec![in alloc; 1]?);
-    let status = run(alloc, None, &mut shelf, &mut out, &mut err)?;
+    let status = run(alloc, &[], &mut shelf, &mut out, &mut err)?;
     assert!(rt; status == Status::WriteFault);
     Ok(())
 }

@@ -85,7 +85,7 @@ fn output_comes_before_the_last_bytes_of_a_long_script_are_read(
         calls: &calls,
         first_put: None,
     };
-    run(alloc, Some("s"), &mut shelf, &mut out, &mut SureSink::new())?;
+    run(alloc, &["s"], &mut shelf, &mut out, &mut SureSink::new())?;
     let first_put = out.first_put.ok_or("nothing was put")?;
     assert!(rt; first_put < shelf.last_pull);
     Ok(())

@@ -1,0 +1,227 @@
+-- The load script, line by line, and what a load run comes to.
+use Rattle.std.proofs.Common.{◌≡◌, ◌⊎◌, ℕ, ◌+◌, ◌<◌, ◌≤◌, List, [], ◌∷◌, ◌++◌, length, map, drop, get_or, Option, Some, None, Ok, Err, refl, sym, ◌∙◌, ap, subst, inl, inr, length-append, arith}
+use Rattle.std.proofs.lemmas.List.{drop_more, drop_all}
+use Rattle.std.proofs.lemmas.List.FromFn.{length-map-range_with_len}
+use Rattle.std.specs.List.{range_with_len}
+use Rattle.std.specs.Io.KnownBytes.{Appends}
+use Rattle.io_edge.specs.Grows.{AppendsPrefix}
+use Rattle.venue_words.specs.Floors.{SymbolView}
+use Rattle.script_text.specs.Load.{load_lines, first_lines, order_line, quote_line, last_line}
+use Rattle.script_text.specs.declared.header.Header.{Header}
+use Rattle.script_text.specs.declared.fault.LineFault.{LineFault}
+use Rattle.script_text.specs.declared.fault.LineFault.TheVariants as fault
+use Rattle.script_text.specs.declared.fault.LineCause.TheVariants.{NoEnd}
+use Rattle.replay_core.specs.Between.{Between}
+use Rattle.replay_core.specs.Loading.{loaded, line_behind, summary, Loaded, LoadOutcome, LoadsTo}
+use Rattle.replay_core.specs.Phases.{IsAtStage}
+use Rattle.replay_core.specs.Play.{Place, Stage, Head, Body, Played, Stepped, play, step_at, after_line, onto, start, end_at, end_of, finished, stopped}
+use Rattle.replay_core.specs.Playing.{Playing}
+use Rattle.replay_core.specs.Reading.{IsAt}
+use Rattle.replay_core.specs.Stages.{Kept, StandsFor}
+use Rattle.replay_core.specs.Statuses.{status_of}
+use Rattle.replay_core.specs.Summary.{summary_of, summary_text}
+use Rattle.replay_core.specs.Telling.{seen}
+use Rattle.replay_core.specs.declared.phase.Phase.{Phase}
+use Rattle.replay_core.specs.declared.phase.Phase.TheVariants as phase
+use Rattle.replay_core.specs.declared.status.Status.{Status}
+use Rattle.replay_core.specs.declared.status.Status.TheVariants.{Done, BadLine, WriteFault, NoMemory}
+use Rattle.replay_core.proofs.Leading.{onto_nothing, onto_onto}
+use Rattle.replay_core.proofs.LineByLine.{worked_line, refused_line, either_steps}
+use Rattle.replay_core.proofs.Outcomes.{prefix_none}
+
+-- ---- the lines
+
+pub line_count : (orders quotes : ℕ) → length (load_lines orders quotes) ≡ orders + quotes + 8
+unfolding load_lines
+line_count orders quotes =
+    let a = length-append ((first_lines (orders + quotes + 2) ++ map order_line (range_with_len 1 orders)) ++ map quote_line (range_with_len 1 quotes)) (last_line orders ∷ []) in
+    let b = length-append (first_lines (orders + quotes + 2) ++ map order_line (range_with_len 1 orders)) (map quote_line (range_with_len 1 quotes)) in
+    let c = length-append (first_lines (orders + quotes + 2)) (map order_line (range_with_len 1 orders)) in
+    let d = length-map-range_with_len order_line 1 orders in
+    let e = length-map-range_with_len quote_line 1 quotes in
+    omega (arith, a, b, c, d, e)
+
+pub no_more : (done orders quotes : ℕ) → done ≡ orders + quotes + 8 → drop done (load_lines orders quotes) ≡ []
+no_more done orders quotes e = let n = line_count orders quotes in drop_all done (load_lines orders quotes) (omega arith)
+
+-- what the next line makes, and then the others
+next_line : (place : Place) (lines : List (List ℕ)) (done : ℕ) → done < length lines
+    → play place (drop done lines) [] ≡ after_line (step_at place (get_or lines done [])) (λ next. play next (drop (done + 1) lines) [])
+unfolding play
+next_line place lines done l = rw (drop_more lines done [] l) refl
+
+-- ---- a reader goes on
+
+pub loads_first : {F : Type 0} (at : F → ℕ → SymbolView) (orders quotes steps : ℕ) (reader : Between F) → IsAt at reader start
+    → reader.held ≡ [] → LoadsTo at (loaded orders quotes) (load_lines orders quotes) steps steps reader
+unfolding loaded
+loads_first at orders quotes steps reader there held = record {
+  place = start;
+  there = there;
+  held = held;
+  text = [];
+  spent = 0;
+  counted = omega arith;
+  goes = onto_nothing (play start (load_lines orders quotes) []);
+}
+
+-- a line was worked, wherever the reader stands
+pub record Worked {F : Type 0} (at : F → ℕ → SymbolView) (reader next : Between F) (part out : List ℕ) (old new : ℕ) : Type 0 where
+  pub answer : (place : Place) → IsAt at reader place
+      → (behind : Place) × ((step_at place (reader.held ++ part)).result ≡ Ok (behind, out)) × IsAt at next behind
+  pub steps : (place : Place) → IsAt at reader place → new ≤ old + (step_at place (reader.held ++ part)).steps
+  pub empty : next.held ≡ []
+
+pub loads_on : {F : Type 0} (at : F → ℕ → SymbolView) (all : Played) (lines : List (List ℕ)) (done old mid new : ℕ) (reader next : Between F) (part out : List ℕ)
+    → LoadsTo at all (drop done lines) old mid reader → done < length lines → part ≡ get_or lines done []
+    → Worked at reader next part out mid new → LoadsTo at all (drop (done + 1) lines) old new next
+loads_on at all lines done old mid new reader next part out x l e w =
+    let y = w.answer x.place x.there in
+    let line : reader.held ++ part ≡ get_or lines done [] = ap (λ (held : List ℕ). held ++ part) x.held ∙ e in
+    let same : step_at x.place (reader.held ++ part) ≡ step_at x.place (get_or lines done []) = ap (step_at x.place) line in
+    let result : (step_at x.place (get_or lines done [])).result ≡ Ok (y.0, out) = ap (λ (s : Stepped). s.result) (sym same) ∙ y.1 in
+    let spent : (step_at x.place (reader.held ++ part)).steps ≡ (step_at x.place (get_or lines done [])).steps = ap (λ (s : Stepped). s.steps) same in
+    let counted = w.steps x.place x.there in
+    record {
+      place = y.0;
+      there = y.2;
+      held = w.empty;
+      text = x.text ++ out;
+      spent = x.spent + (step_at x.place (get_or lines done [])).steps;
+      counted = omega (arith, x.counted, counted, spent);
+      goes = x.goes ∙ ap (onto x.text x.spent) (next_line x.place lines done l
+          ∙ worked_line (step_at x.place (get_or lines done [])) y.0 out (λ next. play next (drop (done + 1) lines) []) result)
+          ∙ onto_onto x.text out x.spent (step_at x.place (get_or lines done [])).steps (play y.0 (drop (done + 1) lines) []);
+    }
+
+pub loads_within : {F : Type 0} (at : F → ℕ → SymbolView) (all : Played) (rest : List (List ℕ)) (old new : ℕ) (reader : Between F)
+    → LoadsTo at all rest old new reader → new ≤ old + all.steps
+loads_within at all rest old new reader x =
+    let steps : all.steps ≡ x.spent + (play x.place rest []).steps = ap (λ (p : Played). p.steps) x.goes in
+    omega (arith, x.counted, steps)
+
+-- a line was refused
+pub record Unworked {F : Type 0} (at : F → ℕ → SymbolView) (reader : Between F) (part : List ℕ) (why : LineFault) (old new : ℕ) : Type 0 where
+  pub answer : (place : Place) → IsAt at reader place
+      → (why ≡ fault.NoMemory) ⊎ ((step_at place (reader.held ++ part)).result ≡ Err why)
+  pub steps : (place : Place) → IsAt at reader place → new ≤ old + (step_at place (reader.held ++ part)).steps
+
+pub loads_fault : {F : Type 0} (at : F → ℕ → SymbolView) (all : Played) (lines : List (List ℕ)) (done old mid new : ℕ) (reader : Between F) (part : List ℕ) (why : LineFault)
+    → LoadsTo at all (drop done lines) old mid reader → done < length lines → part ≡ get_or lines done []
+    → Unworked at reader part why mid new → (why ≡ fault.NoMemory) ⊎ (all.fault ≡ Some why)
+loads_fault at all lines done old mid new reader part why x l e w =
+    let line : reader.held ++ part ≡ get_or lines done [] = ap (λ (held : List ℕ). held ++ part) x.held ∙ e in
+    elim (w.answer x.place x.there) [
+      | inl none ↦ inl none
+      | inr refused ↦
+          let result : (step_at x.place (get_or lines done [])).result ≡ Err why = ap (λ (t : List ℕ). (step_at x.place t).result) (sym line) ∙ refused in
+          inr (ap (λ (p : Played). p.fault) (x.goes ∙ ap (onto x.text x.spent) (next_line x.place lines done l
+          ∙ refused_line (step_at x.place (get_or lines done [])) why (λ next. play next (drop (done + 1) lines) []) result)))
+    ]
+
+pub loads_stopped : {F : Type 0} (at : F → ℕ → SymbolView) (all : Played) (lines : List (List ℕ)) (done old mid new : ℕ) (reader : Between F) (part : List ℕ) (why : LineFault)
+    → LoadsTo at all (drop done lines) old mid reader → done < length lines → part ≡ get_or lines done []
+    → Unworked at reader part why mid new → new ≤ old + all.steps
+loads_stopped at all lines done old mid new reader part why x l e w =
+    let line : reader.held ++ part ≡ get_or lines done [] = ap (λ (held : List ℕ). held ++ part) x.held ∙ e in
+    let spent : (step_at x.place (reader.held ++ part)).steps ≡ (step_at x.place (get_or lines done [])).steps = ap (λ (t : List ℕ). (step_at x.place t).steps) line in
+    let counted = w.steps x.place x.there in
+    let steps : all.steps ≡ x.spent + (play x.place (drop done lines) []).steps = ap (λ (p : Played). p.steps) x.goes in
+    let next : (play x.place (drop done lines) []).steps ≡ (after_line (step_at x.place (get_or lines done [])) (λ next. play next (drop (done + 1) lines) [])).steps =
+    ap (λ (p : Played). p.steps) (next_line x.place lines done l) in
+    let most = either_steps (step_at x.place (get_or lines done [])).steps (step_at x.place (get_or lines done [])).result (λ next. play next (drop (done + 1) lines) []) in
+    omega (arith, x.counted, counted, spent, steps, next, most)
+
+-- ---- what the run comes to
+
+-- behind the last line
+behind_lines : {F : Type 0} (at : F → ℕ → SymbolView) (all : Played) (old new : ℕ) (reader : Between F) (x : LoadsTo at all [] old new reader)
+    → all ≡ onto x.text x.spent (end_of (x.place.lines + 1) x.place.stage [])
+unfolding play end_at
+behind_lines at all old new reader x = x.goes
+
+end_of_body : {F : Type 0} (at : F → ℕ → SymbolView) (n : ℕ) (player : Kept F) (stage : Stage) → IsAtStage at (phase.Body player) stage
+    → (playing : Playing) × (end_of n stage [] ≡ finished playing) × StandsFor at player playing
+end_of_body at n player (Head header) s = absurd s
+end_of_body at n player (Body playing) s = (playing, refl, s)
+
+end_of_head : {F : Type 0} (at : F → ℕ → SymbolView) (n : ℕ) (header : Header) (stage : Stage) → IsAtStage at (phase.Head header) stage
+    → end_of n stage [] ≡ stopped (fault.Bad n NoEnd)
+end_of_head at n header (Head other) s = refl
+end_of_head at n header (Body playing) s = absurd s
+
+-- a player at the end, for which that of the definitions stands
+pub record AtEnd {F : Type 0} (at : F → ℕ → SymbolView) (all : Played) (player : Kept F) : Type 0 where
+  pub playing : Playing
+  pub stands : StandsFor at player playing
+  pub last : all.last ≡ Some playing
+  pub whole : all.fault ≡ None
+
+pub at_end : {F : Type 0} (at : F → ℕ → SymbolView) (all : Played) (old new : ℕ) (reader : Between F) (player : Kept F)
+    → LoadsTo at all [] old new reader → reader.phase ≡ phase.Body player → AtEnd at all player
+at_end at all old new reader player x is =
+    let stage = subst (λ (p : Phase _). IsAtStage at p x.place.stage) is x.there.stage in
+    let y = end_of_body at (x.place.lines + 1) player x.place.stage stage in
+    let whole : all ≡ onto x.text x.spent (finished y.0) = behind_lines at all old new reader x ∙ ap (onto x.text x.spent) y.1 in
+    record {
+      playing = y.0;
+      stands = y.2;
+      last = ap (λ (p : Played). p.last) whole;
+      whole = ap (λ (p : Played). p.fault) whole;
+    }
+
+told_summary : (orders quotes : ℕ) (old new : Option (List ℕ)) (line : List ℕ) (status : Status)
+    → ((status ≡ Done) ⊎ (status ≡ NoMemory)) ⊎ (status ≡ WriteFault) → line ≡ summary orders quotes → (loaded orders quotes).fault ≡ None
+    → (status ≡ Done → Appends old new line) → ((status ≡ Done → ⊥) → AppendsPrefix old new line) → LoadOutcome orders quotes old new status
+told_summary orders quotes old new line status (inl (inl is)) e whole done early =
+    subst (LoadOutcome orders quotes old new) (sym is) (subst (Appends old new) e (done is), whole)
+told_summary orders quotes old new line status (inl (inr is)) e whole done early =
+    subst (LoadOutcome orders quotes old new) (sym is) (subst (AppendsPrefix old new) e (early (λ n. absurd (cc))))
+told_summary orders quotes old new line status (inr is) e whole done early =
+    subst (LoadOutcome orders quotes old new) (sym is) (subst (AppendsPrefix old new) e (early (λ n. absurd (cc))))
+
+-- what was put of the line that sums a player up
+pub record PutsSummary {F : Type 0} (at : F → ℕ → SymbolView) (old new : Option (List ℕ)) (player : Kept F) (status : Status) : Type 0 where
+  pub done : status ≡ Done → (playing : Playing) → StandsFor at player playing → Appends old new (summary_text (summary_of playing))
+  pub early : (status ≡ Done → ⊥) → (playing : Playing) → StandsFor at player playing → AppendsPrefix old new (summary_text (summary_of playing))
+  pub ends : ((status ≡ Done) ⊎ (status ≡ NoMemory)) ⊎ (status ≡ WriteFault)
+
+pub loaded_body : {F : Type 0} (at : F → ℕ → SymbolView) (orders quotes : ℕ) (old new : Option (List ℕ)) (before after : ℕ) (reader : Between F) (player : Kept F) (status : Status)
+    → LoadsTo at (loaded orders quotes) [] before after reader → reader.phase ≡ phase.Body player → PutsSummary at old new player status
+    → Loaded orders quotes (seen old before) (seen new after) status
+loaded_body at orders quotes old new before after reader player status x is puts =
+    let y = at_end at (loaded orders quotes) before after reader player x is in
+    record {
+      outcome = told_summary orders quotes old new (summary_text (summary_of y.playing)) status puts.ends
+          (ap line_behind (sym y.last)) y.whole (λ e. puts.done e y.playing y.stands) (λ e. puts.early e y.playing y.stands);
+      steps = loads_within at (loaded orders quotes) [] before after reader x;
+    }
+
+pub loaded_head : {F : Type 0} (at : F → ℕ → SymbolView) (orders quotes : ℕ) (told : Option (List ℕ)) (before after line : ℕ) (reader : Between F) (header : Header)
+    → LoadsTo at (loaded orders quotes) [] before after reader → reader.phase ≡ phase.Head header
+    → line ≡ reader.lines + 1 → Loaded orders quotes (seen told before) (seen told after) (BadLine line NoEnd)
+loaded_head at orders quotes told before after line reader header x is e =
+    let here : line ≡ x.place.lines + 1 = e ∙ ap (λ (n : ℕ). n + 1) x.there.lines in
+    let stage = subst (λ (p : Phase _). IsAtStage at p x.place.stage) is x.there.stage in
+    record {
+      outcome = (
+        refl,
+        ap (λ (p : Played). p.fault) (behind_lines at (loaded orders quotes) before after reader x
+            ∙ ap (onto x.text x.spent) (end_of_head at (x.place.lines + 1) header x.place.stage stage))
+            ∙ ap (λ (n : ℕ). Some (fault.Bad n NoEnd)) (sym here),
+      );
+      steps = loads_within at (loaded orders quotes) [] before after reader x;
+    }
+
+refused_outcome : (orders quotes : ℕ) (told : Option (List ℕ)) (why : LineFault) → (why ≡ fault.NoMemory) ⊎ ((loaded orders quotes).fault ≡ Some why)
+    → LoadOutcome orders quotes told told (status_of why)
+refused_outcome orders quotes told (fault.Bad line cause) (inl e) = absurd (cc)
+refused_outcome orders quotes told (fault.Bad line cause) (inr e) = (refl, e)
+refused_outcome orders quotes told (fault.Limit line which) (inl e) = absurd (cc)
+refused_outcome orders quotes told (fault.Limit line which) (inr e) = (refl, e)
+refused_outcome orders quotes told fault.NoMemory e = prefix_none told (summary orders quotes)
+
+pub loaded_refused : (orders quotes : ℕ) (told : Option (List ℕ)) (before after : ℕ) (why : LineFault)
+    → (why ≡ fault.NoMemory) ⊎ ((loaded orders quotes).fault ≡ Some why) → after ≤ before + (loaded orders quotes).steps
+    → Loaded orders quotes (seen told before) (seen told after) (status_of why)
+loaded_refused orders quotes told before after why e steps = record { outcome = refused_outcome orders quotes told why e; steps = steps }

@@ -1,0 +1,96 @@
+//! The load script, played from its own lines, and summed up.
+ghost use Rattle.std.specs.Prelude.{◌≡◌, ◌≢◌, ◌≤◌, ◌+◌, ◌⊎◌, [], Some, IfOk, IfErr};
+ghost use Rattle.std.specs.Io.KnownBytes.{Appends};
+ghost use Rattle.io_edge.specs.Grows.{AppendsPrefix};
+ghost use Rattle.venue_words.specs.Causes.{Rose};
+ghost use Rattle.script_text.specs.declared.fault.LineFault.TheVariants.{NoMemory as memory};
+ghost use Rattle.replay_core.specs.Loading.{loaded, Loaded, LoadsTo};
+ghost use Rattle.replay_core.specs.Plan.{most_load};
+ghost use Rattle.replay_core.specs.Playing.{Playing};
+ghost use Rattle.replay_core.specs.Stages.{StandsFor};
+ghost use Rattle.replay_core.specs.Summary.{summary_of, summary_text};
+ghost use Rattle.replay_core.specs.Telling.{seen};
+
+use crate::phase::Phase;
+use crate::pieces::{before_script, work_line};
+use crate::plain_floor::PlainFloor;
+use crate::player::Player;
+use crate::reading::Reader;
+use crate::status::{Status, status_of};
+use io_edge::Sink;
+use script_text::{LineCause, LineFault, load_line};
+use std::alloc::Global;
+use std::sync::ledger::Ledger;
+use venue_words::Steps;
+
+/// Plays all lines of the load script. Their output is dropped.
+fn play_lines<F: PlainFloor, L: Ledger>(
+    alloc: Global,
+    orders: u32,
+    quotes: u32,
+    steps: &mut Steps<L>,
+) -> Result<Reader<F>, LineFault>
+    requires orders { orders ≤ most_load }
+    requires quotes { quotes ≤ most_load }
+    ensures ok { IfOk result (λ reader. LoadsTo F.at (loaded orders quotes) [] steps.old steps.new reader) }
+    ensures err { IfErr result (λ fault. (fault ≡ memory) ⊎ ((loaded orders quotes).fault ≡ Some fault)) }
+    ensures steps { steps.new ≤ steps.old + (loaded orders quotes).steps }
+{
+    let mut reader = before_script::<F>(alloc);
+    let mut text = Vec::new(alloc);
+    for done in 0..orders + quotes + 8 {
+        let line = load_line(alloc, orders, quotes, done + 1)?;
+        text.clear();
+        match work_line(reader, line.as_slice(), &mut text, steps) {
+            Ok(next) => reader = next,
+            Err(fault) => return Err(fault),
+        }
+    }
+    Ok(reader)
+}
+
+/// Puts the line that sums a player up.
+fn put_summary<F: PlainFloor, K: Sink>(alloc: Global, player: &Player<F>, out: &mut K) -> Status
+    ensures done { result ≡ Status.Done → (playing : Playing) → StandsFor F.at player.now playing
+        → Appends (K.told out.old) (K.told out.new) (summary_text (summary_of playing)) }
+    ensures early { result ≢ Status.Done → (playing : Playing) → StandsFor F.at player.now playing
+        → AppendsPrefix (K.told out.old) (K.told out.new) (summary_text (summary_of playing)) }
+    ensures status { ((result ≡ Status.Done) ⊎ (result ≡ Status.NoMemory)) ⊎ (result ≡ Status.WriteFault) }
+    ensures later { K.faults out.old ≤ K.faults out.new }
+    ensures write { result ≡ Status.WriteFault → Rose (K.faults out.old) (K.faults out.new) }
+{
+    let Ok(text) = player.summary().text(alloc) else {
+        return Status::NoMemory;
+    };
+    match out.put(text.as_bytes()) {
+        Ok(()) => Status::Done,
+        Err(_) => Status::WriteFault,
+    }
+}
+
+/// Plays the load script of so many orders and quotes, and puts the one line that sums it up.
+pub fn play_load<F: PlainFloor, K: Sink, L: Ledger>(
+    alloc: Global,
+    orders: u32,
+    quotes: u32,
+    out: &mut K,
+    steps: &mut Steps<L>,
+) -> Status
+    requires orders { orders ≤ most_load }
+    requires quotes { quotes ≤ most_load }
+    ensures ran { Loaded orders quotes (seen (K.told out.old) steps.old) (seen (K.told out.new) steps.new) result }
+    ensures later { K.faults out.old ≤ K.faults out.new }
+    ensures write { result ≡ Status.WriteFault → Rose (K.faults out.old) (K.faults out.new) }
+{
+    let reader = match play_lines::<F, L>(alloc, orders, quotes, steps) {
+        Ok(reader) => reader,
+        Err(fault) => return status_of(fault),
+    };
+    match &reader.phase {
+        Phase::Body(player) => put_summary(alloc, player, out),
+        Phase::Head(_) => Status::BadLine {
+            line: reader.lines + 1,
+            cause: LineCause::NoEnd,
+        },
+    }
+}
