@@ -161,8 +161,8 @@ fn main(rt: HostRuntime) -> io::Result<()> {
     map_times(&rt)
 }
 END
-mkdir -p crates/tree_times/proofs/main
-cat > crates/tree_times/proofs/main/Invariants.antt <<'END'
+mkdir -p proofs/main
+cat > proofs/main/Invariants.antt <<'END'
 use Rattle.tree_times.proofs.main.Given as goal
 
 abbrev pub ghosts-counted : goal.ghosts-counted
