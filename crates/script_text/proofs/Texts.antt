@@ -1,7 +1,9 @@
--- The text of bytes stands for these bytes.
-use Rattle.std.proofs.Common.{◌≡◌, ℕ, suc, ◌+◌, ◌*◌, ◌/◌, ◌%◌, ◌<◌, ◌==◌, nat_lt, Bool, true, false, cond, List, [], ◌∷◌, ◌++◌, get_or, Some, refl, arith, ap}
+-- The text of bytes stands for these bytes, and what holds of bytes and texts without a backslash.
+use Rattle.std.proofs.Common.{◌≡◌, ℕ, suc, ◌+◌, ◌*◌, ◌/◌, ◌%◌, ◌<◌, ◌==◌, nat_lt, ◌||◌, Bool, true, false, cond, List, [], ◌∷◌, ◌++◌, map, get_or, Some, refl, arith, ap, ◌∙◌}
+use Rattle.std.proofs.lemmas.Bool.{and_parts}
 use Rattle.std.proofs.lemmas.Bool.Decides.{nat_tests}
-use Rattle.script_text.specs.Escaping.{hexadecimal, is_plain, escaped, escape_text, hexadecimal_value, lone_byte, paired_byte, before_bytes, text_of}
+use Rattle.std.specs.List.{list_all}
+use Rattle.script_text.specs.Escaping.{hexadecimal, is_plain, is_plain_or, replaced, escaped, escape_text, hexadecimal_value, lone_byte, paired_byte, before_bytes, text_of}
 
 digit_back : (b : Bool) (n : ℕ) → nat_lt n 10 ≡ b → n < 16 → hexadecimal_value (cond b (48 + n) (55 + n)) ≡ Some n
 unfolding hexadecimal_value
@@ -47,3 +49,37 @@ pub text_back : (bytes : List ℕ) → ((k : ℕ) → get_or bytes k 0 < 256) �
 unfolding escape_text text_of
 text_back [] h = refl
 text_back (byte ∷ bytes) h = rw (escaped_back byte (escape_text bytes) (h 0), text_back bytes (λ k. h (suc k))) refl
+
+-- what stands for bytes that are plain or SOH, and they for it
+plain_cons : (one plain : Bool) (byte : ℕ) (rest : List ℕ) → (byte == 1) ≡ one → is_plain byte ≡ plain → (one || plain) ≡ true
+    → escaped byte ++ rest ≡ cond (byte == 1) 124 byte ∷ rest
+unfolding escaped
+plain_cons true plain byte rest e f h = rw e refl
+plain_cons false true byte rest e f h = rw (e, f) refl
+plain_cons false false byte rest e f h = cc
+
+pub plain_text : (bytes : List ℕ) → list_all (is_plain_or 1) bytes ≡ true
+    → escape_text bytes ≡ map (replaced 1 124) bytes
+unfolding escape_text
+plain_text [] h = refl
+plain_text (byte ∷ bytes) h =
+    let parts = and_parts (is_plain_or 1 byte) (list_all (is_plain_or 1) bytes) h in
+    rw (plain_cons (byte == 1) (is_plain byte) byte (escape_text bytes) refl refl parts.0, plain_text bytes parts.1) refl
+
+is_bar : (character : ℕ) → (character == 124) ≡ true → character ≡ 124
+is_bar character e = grind (arith, nat_tests)
+
+plain_first : (bar plain : Bool) (character : ℕ) (text : List ℕ) → (character == 124) ≡ bar → is_plain character ≡ plain → (bar || plain) ≡ true
+    → text_of (character ∷ text) ≡ before_bytes (Some (cond bar 1 character)) (text_of text)
+plain_first true plain character text e f h = rw (is_bar character e) (bar_back text)
+plain_first false true character text e f h = plain_back character text (plain_is_lone character f).0 (plain_is_lone character f).1
+plain_first false false character text e f h = cc
+
+pub plain_bytes : (text : List ℕ) → list_all (is_plain_or 124) text ≡ true
+    → text_of text ≡ Some (map (replaced 124 1) text)
+unfolding text_of
+plain_bytes [] h = refl
+plain_bytes (character ∷ text) h =
+    let parts = and_parts (is_plain_or 124 character) (list_all (is_plain_or 124) text) h in
+    plain_first (character == 124) (is_plain character) character text refl refl parts.0
+    ∙ ap (before_bytes (Some (replaced 124 1 character))) (plain_bytes text parts.1)

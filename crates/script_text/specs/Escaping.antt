@@ -1,5 +1,5 @@
 -- Bytes as text on one line, and the bytes that a text stands for.
-use Rattle.std.specs.Prelude.{ℕ, ◌+◌, ◌-◌, ◌*◌, ◌/◌, ◌%◌, nat_le, nat_lt, ◌==◌, Bool, ◌&&◌, not, if◌then◌else◌, List, [], ◌∷◌, Option, Some, None, option_map}
+use Rattle.std.specs.Prelude.{ℕ, ◌+◌, ◌-◌, ◌*◌, ◌/◌, ◌%◌, nat_le, nat_lt, ◌==◌, Bool, ◌&&◌, ◌||◌, not, if◌then◌else◌, List, [], ◌∷◌, Option, Some, None, option_map}
 use Rattle.std.specs.Option.{option_and_then}
 use Rattle.std.specs.List.{flat_map}
 
@@ -10,6 +10,14 @@ hexadecimal n = if nat_lt n 10 then 48 + n else 55 + n
 -- whether a byte stands for itself: from 0x20 to 0x7E, but neither '|' nor '\'
 abbrev pub is_plain : ℕ → Bool
 is_plain byte = nat_le 32 byte && (nat_le byte 126 && (not (byte == 124) && not (byte == 92)))
+
+-- whether a byte is plain or this other one
+abbrev pub is_plain_or : ℕ → ℕ → Bool
+is_plain_or other byte = byte == other || is_plain byte
+
+-- a byte, or another in the place of this one
+abbrev pub replaced : ℕ → ℕ → ℕ → ℕ
+replaced old new byte = if byte == old then new else byte
 
 -- SOH as '|', a plain byte as itself, any other byte as '\HH'
 unfoldable pub escaped : ℕ → List ℕ

@@ -1,6 +1,7 @@
 //! Bytes as text on one line.
-ghost use Rattle.std.specs.Prelude.{◌≡◌, ◌<◌, ◌++◌, ◌∷◌, [], Some, None, IfOk, IfSome, IfNone, OnOk, length, option_map, if◌then◌else◌, ◌==◌};
-ghost use Rattle.script_text.specs.Escaping.{hexadecimal, is_plain, escaped, escape_text, hexadecimal_value, lone_byte, paired_byte, before_bytes, text_of, behind_backslash};
+ghost use Rattle.std.specs.Prelude.{◌≡◌, ◌<◌, ◌++◌, ◌∷◌, true, [], Some, None, IfOk, IfSome, IfNone, OnOk, length, map, option_map, if◌then◌else◌, ◌==◌};
+ghost use Rattle.std.specs.List.{list_all};
+ghost use Rattle.script_text.specs.Escaping.{hexadecimal, is_plain, is_plain_or, replaced, escaped, escape_text, hexadecimal_value, lone_byte, paired_byte, before_bytes, text_of, behind_backslash};
 
 use std::alloc::{AllocError, Global};
 use venue_words::NoMemory;
@@ -26,6 +27,33 @@ fn is_plain(byte: u8) -> bool
     b' ' <= byte && (byte <= b'~' && (byte != b'|' && byte != b'\\'))
 }
 
+/// Whether each byte is plain or this one. It looks at all of them, so that it compiles to a few steps for 16 bytes.
+fn are_plain_or(bytes: &[u8], other: u8) -> bool
+    ensures { result ≡ list_all (is_plain_or other) bytes.now }
+{
+    let mut passed = true;
+    for byte in bytes {
+        passed = passed & (*byte == other || is_plain(*byte));
+    }
+    passed
+}
+
+/// A byte, or `new` where it is `old`.
+fn replaced(byte: u8, old: u8, new: u8) -> u8
+    ensures { result ≡ replaced old new byte }
+{
+    if byte == old { new } else { byte }
+}
+
+/// Puts one byte in the place of another. It writes each place, for the same reason.
+fn replace(bytes: &mut [u8], old: u8, new: u8)
+    ensures { bytes.new ≡ map (replaced old new) bytes.old }
+{
+    for byte in bytes.iter_mut() {
+        *byte = replaced(*byte, old, new);
+    }
+}
+
 /// Appends what stands for a byte.
 #[tactic(auto, unfolding(crate::specs::Escaping::escaped))]
 fn push_escaped(out: &mut Vec<u8>, byte: u8) -> Result<(), AllocError>
@@ -41,15 +69,37 @@ fn push_escaped(out: &mut Vec<u8>, byte: u8) -> Result<(), AllocError>
     Ok(())
 }
 
-/// Appends the text of bytes: SOH as `|`, plain bytes as themselves, the others as `\\HH`. A refusal leaves a part.
+/// Appends the text of bytes, each of which is plain or SOH.
+fn push_plain_text(out: &mut Vec<u8>, bytes: &[u8]) -> Result<(), AllocError>
+    requires { list_all (is_plain_or 1) bytes.now ≡ true }
+    ensures { OnOk result (out.new.items ≡ out.old.items ++ escape_text bytes.now) }
+{
+    let start = out.len();
+    out.extend_from_slice(bytes)?;
+    replace(&mut out[start..], SOH, b'|');
+    Ok(())
+}
+
+/// Appends the text of bytes byte by byte.
 #[tactic(auto, unfolding(crate::specs::Escaping::escape_text))]
-pub fn push_escaped_text(out: &mut Vec<u8>, bytes: &[u8]) -> Result<(), AllocError>
+fn push_each(out: &mut Vec<u8>, bytes: &[u8]) -> Result<(), AllocError>
     ensures { OnOk result (out.new.items ≡ out.old.items ++ escape_text bytes.now) }
 {
     for byte in bytes {
         push_escaped(out, *byte)?;
     }
     Ok(())
+}
+
+/// Appends the text of bytes: SOH as `|`, plain bytes as themselves, the others as `\\HH`. A refusal leaves a part.
+pub fn push_escaped_text(out: &mut Vec<u8>, bytes: &[u8]) -> Result<(), AllocError>
+    ensures { OnOk result (out.new.items ≡ out.old.items ++ escape_text bytes.now) }
+{
+    if are_plain_or(bytes, SOH) {
+        push_plain_text(out, bytes)
+    } else {
+        push_each(out, bytes)
+    }
 }
 
 /// The text of bytes on one line: SOH as `|`, plain bytes as themselves, the others as `\\HH`. `unescape` gives the
@@ -136,16 +186,37 @@ fn first_byte(text: &[u8]) -> Option<(u8, &[u8])>
     }
 }
 
-/// The bytes that a text stands for, or none where it is no text: `|` stands for SOH, `\\HH` with two upper-case
-/// hexadecimal digits for that byte, and each byte from 0x20 to 0x7E but these two for itself.
-pub fn unescape(alloc: Global, text: &[u8]) -> Result<Option<Vec<u8>>, NoMemory>
+/// The bytes that a text stands for, each character of which is plain or a bar.
+fn unescape_plain(alloc: Global, text: &[u8]) -> Result<Vec<u8>, NoMemory>
+    requires { list_all (is_plain_or 124) text.now ≡ true }
+    ensures { IfOk result (λ bytes. text_of text.now ≡ Some bytes.items) }
+{
+    let mut bytes = Vec::from_slice(alloc, text)?;
+    replace(bytes.as_mut_slice(), b'|', SOH);
+    Ok(bytes)
+}
+
+/// The bytes that a text stands for, one after the other, or none where it is no text.
+fn unescape_each(alloc: Global, text: &[u8]) -> Result<Option<Vec<u8>>, NoMemory>
     ensures { IfOk result (λ bytes. option_map (λ bytes. bytes.items) bytes ≡ text_of text.now) }
 {
     let mut bytes = Vec::with_capacity(alloc, text.len())?;
     let mut rest = text;
     while let Some((byte, behind)) = first_byte(rest) {
-        bytes.push(byte)?;
+        bytes.push_reserved(byte);
         rest = behind;
     }
     Ok(if rest.is_empty() { Some(bytes) } else { None })
+}
+
+/// The bytes that a text stands for, or none where it is no text: `|` stands for SOH, `\\HH` with two upper-case
+/// hexadecimal digits for that byte, and each byte from 0x20 to 0x7E but these two for itself.
+pub fn unescape(alloc: Global, text: &[u8]) -> Result<Option<Vec<u8>>, NoMemory>
+    ensures { IfOk result (λ bytes. option_map (λ bytes. bytes.items) bytes ≡ text_of text.now) }
+{
+    if are_plain_or(text, b'|') {
+        Ok(Some(unescape_plain(alloc, text)?))
+    } else {
+        unescape_each(alloc, text)
+    }
 }

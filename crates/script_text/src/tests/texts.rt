@@ -1,5 +1,5 @@
 //! Bytes as text, and back.
-use crate::{escape, unescape};
+use crate::{escape, push_escaped_text, unescape};
 use std::test::Fail;
 
 #[test]
@@ -11,6 +11,22 @@ fn bytes_that_are_not_plain_are_escaped(rt: HostRuntime) -> Result<(), Fail> {
         return Err("back".into());
     };
     assert_eq!(rt; back.as_slice(), bytes.as_slice());
+    Ok(())
+}
+
+#[test]
+fn a_frame_of_plain_bytes_has_a_bar_for_each_soh(rt: HostRuntime) -> Result<(), Fail> {
+    let frame = b"8=FIXT.1.1\x019=5\x0135=0\x0149=A\x0110=163\x01";
+    let mut text = Vec::from_slice(rt.alloc(), b"OUT A ")?;
+    push_escaped_text(&mut text, frame)?;
+    assert_eq!(rt;
+        text.as_slice(),
+        b"OUT A 8=FIXT.1.1|9=5|35=0|49=A|10=163|".as_slice()
+    );
+    let Some(back) = unescape(rt.alloc(), b"8=FIXT.1.1|9=5|35=0|49=A|10=163|")? else {
+        return Err("back".into());
+    };
+    assert_eq!(rt; back.as_slice(), frame.as_slice());
     Ok(())
 }
 
