@@ -1,13 +1,12 @@
 -- What a text makes from a place on, by its first line.
-use Rattle.std.proofs.Common.{◌≡◌, ℕ, ◌+◌, ◌<◌, Bool, true, false, List, [], ◌∷◌, ◌++◌, length, refl, ap, append-nil, arith, nat_lt, cond, length-append}
+use Rattle.std.proofs.Common.{◌≡◌, ℕ, ◌+◌, ◌<◌, Bool, true, false, List, [], ◌∷◌, ◌++◌, length, refl, append-nil, arith, nat_lt, cond, length-append}
 use Rattle.std.proofs.lemmas.Bool.Decides.{nat_tests}
 use Rattle.script_text.specs.Lines.{cut, has_end}
 use Rattle.script_text.specs.LinesLaws.{cut_joined, cut_first, cut_whole, joined}
-use Rattle.script_text.specs.declared.fault.LineFault.{LineFault}
 use Rattle.script_text.specs.declared.fault.LineFault.TheVariants.{Limit}
 use Rattle.script_text.specs.declared.fault.LimitCause.TheVariants.{Line}
 use Rattle.script_text.specs.Header.{longest_line}
-use Rattle.replay_core.specs.Play.{Place, Played, Stage, Head, Body, played, play, step_at, end_at, end_of, after_line, stopped, finished, refused_at}
+use Rattle.replay_core.specs.Play.{Place, Played, Stage, Head, Body, played, play, step_at, end_at, end_of, after_line, stopped, refused_at}
 
 pub played_step : (p : Place) (held more : List ℕ) → has_end held ≡ false
     → played p (held ++ 10 ∷ more) ≡ after_line (step_at p held) (λ q. played q more)

@@ -1,21 +1,21 @@
 -- What each input makes of a desk and of its member alike.
-use Rattle.std.proofs.Common.{◌≡◌, ◌⊎◌, ℕ, ℤ, ◌+◌, ◌<◌, ◌≤◌, max, Bool, true, false, cond, List, [], ◌∷◌, ◌++◌, length, drop, map, get_or, Result, Ok, Err, OnOk, IsTrue, refl, sym, ◌∙◌, ap, subst, append_assoc, append-nil, inl, inr, arith}
+use Rattle.std.proofs.Common.{◌≡◌, ◌⊎◌, ℕ, ℤ, ◌+◌, ◌<◌, ◌≤◌, max, Bool, true, false, cond, List, [], ◌∷◌, ◌++◌, length, map, get_or, Result, Ok, Err, OnOk, refl, sym, ◌∙◌, ap, subst, append_assoc, inl, inr, arith}
 use Rattle.std.proofs.Math.Seq.{drop-append_seam}
 use Rattle.std.proofs.lemmas.List.FromFn.{get_or-map-range_with_len}
 use Rattle.std.specs.List.{range_with_len}
 use Rattle.fix_frames.specs.declared.reading.Reading.{Reading}
-use Rattle.fix_frames.specs.Reading.{reading_of, with_frames, none_yet}
+use Rattle.fix_frames.specs.Reading.{reading_of, with_frames}
 use Rattle.venue_words.specs.declared.config.Config.{Config}
 use Rattle.venue_words.specs.declared.command.Event.{Event}
 use Rattle.venue_words.specs.declared.report.Report.{Report}
-use Rattle.session_core.specs.Machine.{Machine, Outcome, IsUp, IsOver, rests, on_clock, connected}
+use Rattle.session_core.specs.Machine.{Machine, Outcome, IsUp, IsOver, on_clock, connected}
 use Rattle.session_core.specs.Runs.{send_if_up}
 use Rattle.session_core.specs.State.{is_up}
 use Rattle.session_core.specs.declared.message.Message.{Message}
-use Rattle.member_gate.specs.Answering.{Work, idle}
+use Rattle.member_gate.specs.Answering.{Work}
 use Rattle.member_gate.specs.Desks.{DeskView, connected_desk}
 use Rattle.member_gate.specs.Desks as desks
-use Rattle.member_gate.specs.Reporting.{cursor_at, messages_at, messages_from, messages_past, MovedOn}
+use Rattle.member_gate.specs.Reporting.{cursor_at, messages_from, messages_past, MovedOn}
 use Rattle.member_gate.specs.Working.{work_of_reading, AreUnread}
 use Rattle.replay_core.specs.LineWork.{ticked, reading_behind, work_of_bytes, reconnected}
 use Rattle.replay_core.specs.Playing.{Member, reports_at}

@@ -1,5 +1,5 @@
 -- What calls of a plain floor leave of its journals.
-use Rattle.std.proofs.Common.{◌≡◌, ◌≢◌, ◌⊎◌, ℕ, zero, suc, ℤ, ◌+◌, ◌<◌, ◌≤◌, ◌-◌, Bool, true, false, nat_lt, cond, List, [], ◌∷◌, ◌++◌, length, slice_index, slice_get, slice_set, unwrap_or, get_or, Option, Some, None, IfSome, refl, sym, ◌∙◌, ap, subst, append-nil, length-append, inl, inr, arith}
+use Rattle.std.proofs.Common.{◌≡◌, ◌≢◌, ◌⊎◌, ℕ, zero, suc, ℤ, ◌+◌, ◌<◌, ◌≤◌, true, false, nat_lt, List, [], ◌∷◌, ◌++◌, length, slice_index, slice_set, Option, Some, IfSome, refl, sym, ◌∙◌, ap, subst, append-nil, length-append, inl, inr, arith}
 use Rattle.std.proofs.lemmas.Bool.Decides.{nat_tests}
 use Rattle.std.proofs.lemmas.List.{get_or_past}
 use Rattle.std.proofs.lemmas.List.FromFn.{length-range_with_len}
@@ -7,17 +7,15 @@ use Rattle.std.specs.List.{range_with_len}
 use Rattle.venue_words.specs.declared.command.Command.{Command}
 use Rattle.venue_words.specs.declared.command.Event.{Event}
 use Rattle.venue_words.specs.declared.config.Config.{Config}
-use Rattle.venue_words.specs.declared.report.Report.{Report}
-use Rattle.venue_words.specs.Floors.{FloorMark, Setup, SymbolView, Records, AddsNone, CostsNothing}
-use Rattle.venue_words.specs.Journals.{event, StartsWith}
+use Rattle.venue_words.specs.Floors.{FloorMark, Setup, SymbolView, Records, AddsNone}
+use Rattle.venue_words.specs.Journals.{event}
 use Rattle.eager_meaning.specs.State.{State}
-use Rattle.member_gate.specs.declared.refusal.DeskRefusal.{DeskRefusal}
-use Rattle.member_gate.specs.declared.refusal.DeskRefusal.TheVariants.{Full, NoMemory}
+use Rattle.member_gate.specs.declared.refusal.DeskRefusal.TheVariants.{Full}
 use Rattle.member_gate.specs.Answering.{Submission}
-use Rattle.member_gate.specs.Submitting.{TookOne, TookAll, TookNone, TookNoSteps, Waited, IsNextAt}
+use Rattle.member_gate.specs.Submitting.{TookOne, TookAll, TookNone, TookNoSteps, Waited}
 use Rattle.replay_core.specs.PlainFloor.{IsPlain, ShowsJournals}
 use Rattle.replay_core.specs.Playing.{journal_at, reports_in, reports_at}
-use Rattle.replay_core.specs.Recording.{Recorded, has_room, next_event, with_event, most_steps, recorded, recorded_behind, none_recorded}
+use Rattle.replay_core.specs.Recording.{Recorded, has_room, next_event, with_event, most_steps, recorded, recorded_behind}
 
 empty : {A : Type 0} (xs : List A) → length xs ≡ 0 → xs ≡ []
 empty [] e = refl

@@ -1,5 +1,5 @@
 -- The desks and members before any connection.
-use Rattle.std.proofs.Common.{◌≡◌, ◌⊎◌, ℕ, zero, suc, ◌+◌, ◌<◌, List, [], ◌∷◌, ◌++◌, length, map, replicate, refl, ap, inr, arith}
+use Rattle.std.proofs.Common.{◌≡◌, ℕ, zero, suc, ◌+◌, List, [], ◌∷◌, ◌++◌, length, map, replicate, refl, ap, inr, arith}
 use Rattle.std.proofs.lemmas.List.FromFn.{map-range_with_len_more}
 use Rattle.std.specs.List.{AllZip, range_with_len}
 use Rattle.fix_frames.specs.Reading.{reading_of}
@@ -8,7 +8,7 @@ use Rattle.venue_words.specs.declared.config.Config.{Config}
 use Rattle.venue_words.specs.Floors.{SymbolView}
 use Rattle.member_gate.specs.Desks.{DeskView, fresh_desk}
 use Rattle.member_gate.specs.Working.{AreUnread}
-use Rattle.replay_core.specs.Playing.{Member, new_member, before_body, journal_at}
+use Rattle.replay_core.specs.Playing.{new_member, before_body, journal_at}
 use Rattle.replay_core.specs.Stages.{IsDeskOf, StandsFor, kept_of, fresh_desks, AreDesks}
 
 pub fresh_more : (config : Config) (n : ℕ)

@@ -1,5 +1,5 @@
 -- How a reader goes on over a piece.
-use Rattle.std.proofs.Common.{◌≡◌, ◌⊎◌, ℕ, ◌+◌, ◌<◌, false, List, [], ◌∷◌, ◌++◌, length, refl, sym, ◌∙◌, ap, append_assoc, inl, inr}
+use Rattle.std.proofs.Common.{◌≡◌, ◌⊎◌, ℕ, ◌+◌, ◌<◌, false, List, [], ◌∷◌, ◌++◌, length, sym, ◌∙◌, ap, append_assoc, inl, inr}
 use Rattle.venue_words.specs.Floors.{SymbolView}
 use Rattle.script_text.specs.Lines.{has_end}
 use Rattle.script_text.specs.Header.{longest_line}

@@ -1,5 +1,5 @@
 -- How what was told goes on from call to call.
-use Rattle.std.proofs.Common.{◌≡◌, ◌≤◌, ◌+◌, ℕ, List, [], ◌++◌, Option, Some, None, refl, sym, ◌∙◌, ap, append_assoc, append-nil, zero-add, arith}
+use Rattle.std.proofs.Common.{◌≡◌, ◌+◌, ℕ, List, [], ◌++◌, Option, Some, None, sym, ◌∙◌, ap, append_assoc, append-nil, zero-add, arith}
 use Rattle.std.specs.Io.KnownBytes.{Appends}
 use Rattle.replay_core.specs.Play.{Played, onto}
 use Rattle.replay_core.specs.Telling.{Seen, Leads, Begins, Halts}

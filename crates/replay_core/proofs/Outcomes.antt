@@ -1,5 +1,5 @@
 -- From the middle of a script to its outcome.
-use Rattle.std.proofs.Common.{◌≡◌, ℕ, ◌≤◌, ◌+◌, List, [], ◌++◌, length, take, Option, Some, None, IfSome, refl, sym, ◌∙◌, ap, append_assoc, append-nil, arith}
+use Rattle.std.proofs.Common.{◌≡◌, ℕ, ◌+◌, List, [], ◌++◌, length, take, Option, Some, None, IfSome, refl, sym, ◌∙◌, ap, append_assoc, append-nil, arith}
 use Rattle.std.proofs.Math.Seq.{take-append_seam}
 use Rattle.std.specs.Io.KnownBytes.{Appends, Consumes, Keeps, IsAtEnd}
 use Rattle.io_edge.specs.Files.{Files, file_named}
@@ -7,8 +7,8 @@ use Rattle.io_edge.specs.Grows.{AppendsPrefix}
 use Rattle.script_text.specs.Lines as lines
 use Rattle.script_text.specs.declared.fault.LineFault.{LineFault}
 use Rattle.script_text.specs.declared.fault.LineFault.TheVariants as fault
-use Rattle.replay_core.specs.Play.{Place, Played, played, start, script, onto, end_at, play}
-use Rattle.replay_core.specs.Telling.{Seen, Leads, Begins, Halts, Outcome, Ran, Underway, ending, seen}
+use Rattle.replay_core.specs.Play.{Played, played, start, script, onto, end_at, play}
+use Rattle.replay_core.specs.Telling.{Seen, Leads, Begins, Halts, Outcome, Ran, Underway, ending}
 use Rattle.replay_core.specs.declared.status.Status.{Status}
 use Rattle.replay_core.specs.declared.status.Status.TheVariants.{Done, BadWords, BadLine, LimitLine, ReadFault, WriteFault, NoMemory}
 use Rattle.replay_core.proofs.Leading.{appends_none, leads_none, leads_trans, leads_halts}

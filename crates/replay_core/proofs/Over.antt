@@ -1,11 +1,11 @@
 -- What a session that is over takes changes nothing.
-use Rattle.std.proofs.Common.{◌≡◌, ℕ, ℤ, Bool, true, false, cond, List, [], ◌∷◌, refl, ap, ◌∙◌}
+use Rattle.std.proofs.Common.{◌≡◌, ℕ, ℤ, true, false, cond, List, [], ◌∷◌, refl, ap, ◌∙◌}
 use Rattle.fix_frames.specs.declared.reading.Reading.{Reading}
 use Rattle.venue_words.specs.declared.config.Config.{Config}
 use Rattle.session_core.specs.declared.message.Message.{Message}
 use Rattle.session_core.specs.declared.state.Phase.{Phase}
 use Rattle.session_core.specs.declared.state.Phase.TheVariants.{New, Up, Ended}
-use Rattle.session_core.specs.State.{is_up, is_up_phase, is_over}
+use Rattle.session_core.specs.State.{is_up_phase, is_over}
 use Rattle.session_core.specs.Machine.{Machine, Outcome, IsOver, rests, on_frame, on_overlong, on_clock}
 use Rattle.session_core.specs.Runs.{send_if_up}
 use Rattle.member_gate.specs.Answering.{Work, idle, turned}

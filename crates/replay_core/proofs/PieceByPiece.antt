@@ -1,6 +1,6 @@
 -- A piece of a text, line by line.
-use Rattle.std.proofs.Common.{◌≡◌, ℕ, List, ◌∷◌, ◌++◌, ap, append_assoc, ◌∙◌, ◌≤◌, ◌+◌, subst, sym}
-use Rattle.replay_core.specs.Play.{Place, Played, played}
+use Rattle.std.proofs.Common.{◌≡◌, ℕ, List, ◌∷◌, ◌++◌, ap, append_assoc, ◌∙◌}
+use Rattle.replay_core.specs.Play.{Played}
 use Rattle.replay_core.specs.Telling.{Seen, Leads, Begins, Halts}
 use Rattle.replay_core.specs.declared.status.Status.{Status}
 use Rattle.replay_core.specs.declared.status.Status.TheVariants.{Done, BadWords, BadLine, LimitLine, ReadFault, WriteFault, NoMemory}

@@ -1,5 +1,5 @@
 -- Which commands a piece makes, and how many of them were recorded when it was refused.
-use Rattle.std.proofs.Common.{◌≡◌, ℕ, ℤ, ◌+◌, ◌≤◌, Bool, true, false, cond, List, [], ◌∷◌, ◌++◌, length, refl, sym, ◌∙◌, ap, subst, append-nil, append_assoc, arith, Option}
+use Rattle.std.proofs.Common.{◌≡◌, ℕ, ℤ, ◌+◌, ◌≤◌, Bool, true, false, cond, List, [], ◌∷◌, ◌++◌, length, refl, sym, ◌∙◌, ap, append-nil, append_assoc, arith, Option}
 use Rattle.venue_words.specs.declared.command.Event.{Event}
 use Rattle.venue_words.specs.declared.config.Config.{Config}
 use Rattle.venue_words.specs.Floors.{FloorMark, SymbolView}
@@ -7,13 +7,13 @@ use Rattle.fix_frames.specs.declared.reading.Reading.{Reading}
 use Rattle.session_core.specs.Machine.{Machine}
 use Rattle.eager_meaning.specs.State.{State}
 use Rattle.member_gate.specs.declared.refusal.DeskRefusal.{DeskRefusal}
-use Rattle.member_gate.specs.declared.refusal.DeskRefusal.TheVariants.{Full, NoMemory}
+use Rattle.member_gate.specs.declared.refusal.DeskRefusal.TheVariants.{Full}
 use Rattle.member_gate.specs.Answering.{Submission, Work}
 use Rattle.member_gate.specs.Submitting.{Stopped}
 use Rattle.member_gate.specs.Working.{work_of_frame, work_of_frames, work_at_limit, work_of_reading, then_work}
 use Rattle.replay_core.specs.PlainFloor.{IsPlain, ShowsJournals}
 use Rattle.replay_core.specs.Recording.{recorded}
-use Rattle.replay_core.proofs.FloorWork.{Took, took_all, none_full, no_steps, Parts, recorded_append}
+use Rattle.replay_core.proofs.FloorWork.{Took, took_all, none_full, no_steps, recorded_append}
 
 frames_append : (config : Config) (member : ℕ) (moment : ℤ) (session : Machine) (xs ys : List (List ℕ))
     → (work_of_frames config member moment session (xs ++ ys)).submissions

@@ -1,5 +1,5 @@
 -- Where a desk has no news, nothing goes out to its member.
-use Rattle.std.proofs.Common.{◌≡◌, ℕ, ℤ, ◌+◌, ◌<◌, ◌≤◌, max, Bool, true, false, List, [], ◌∷◌, ◌++◌, length, drop, map, filter, slice_index, refl, sym, ◌∙◌, ap, subst, append-nil, inl, inr, arith, Option}
+use Rattle.std.proofs.Common.{◌≡◌, ℕ, ℤ, ◌+◌, ◌<◌, ◌≤◌, Bool, true, false, List, [], ◌∷◌, length, slice_index, refl, sym, ◌∙◌, ap, append-nil, inl, inr, arith, Option}
 use Rattle.venue_words.specs.declared.config.Config.{Config}
 use Rattle.venue_words.specs.declared.command.Event.{Event}
 use Rattle.venue_words.specs.declared.report.Report.{Report}
@@ -14,7 +14,7 @@ use Rattle.member_gate.specs.Answering.{name_at}
 use Rattle.member_gate.specs.Desks.{DeskView}
 use Rattle.member_gate.specs.QuietLaws.{none_behind}
 use Rattle.member_gate.specs.Submitting.{Waited}
-use Rattle.member_gate.specs.Reporting.{cursor_at, messages_at, messages_from, messages_past, ArePast, MovedOn}
+use Rattle.member_gate.specs.Reporting.{cursor_at, messages_from, messages_past, ArePast, MovedOn}
 use Rattle.replay_core.specs.Output.{frame_lines}
 use Rattle.replay_core.specs.PlainFloor.{IsPlain}
 use Rattle.replay_core.specs.Playing.{Member, reports_at, reports_in}

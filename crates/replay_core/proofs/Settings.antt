@@ -1,10 +1,9 @@
 -- A venue of books for one thread is a plain floor of its config.
-use Rattle.std.proofs.Common.{◌≡◌, ◌⊎◌, ℕ, zero, suc, ◌+◌, ◌*◌, ◌/◌, ◌%◌, ◌<◌, ◌≤◌, List, [], ◌∷◌, length, map, slice_get, slice_index, Option, Some, None, Result, Ok, Err, IfOk, refl, sym, ◌∙◌, ap, subst, inl, inr, arith}
+use Rattle.std.proofs.Common.{◌≡◌, ℕ, zero, suc, ◌<◌, List, [], ◌∷◌, length, map, slice_get, slice_index, Option, Some, None, Result, Ok, Err, IfOk, refl, ◌∙◌, ap, inl, inr, arith}
 use Rattle.std.proofs.lemmas.List.Elements.{recursion_from_All}
 use Rattle.std.specs.List.{All, AllByRecursion, range_with_len}
 use Rattle.venue_words.specs.declared.command.Event.{Event}
 use Rattle.venue_words.specs.declared.config.Config.{Config}
-use Rattle.venue_words.specs.declared.report.Report.{Report}
 use Rattle.venue_words.specs.Conditions.{IsConfig, IsTick}
 use Rattle.venue_words.specs.Floors.{FloorMark, SymbolView, setup_of}
 use Rattle.eager_meaning.specs.State.{State}

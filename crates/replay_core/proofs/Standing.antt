@@ -1,5 +1,5 @@
 -- What is kept stands for the body behind each kind of line.
-use Rattle.std.proofs.Common.{◌≡◌, ◌⊎◌, ℕ, ℤ, ◌+◌, ◌<◌, ◌≤◌, List, [], ◌∷◌, ◌++◌, length, map, slice_set, slice_get, unwrap_or, get_or, refl, sym, ◌∙◌, ap, subst, append-nil, arith, Option}
+use Rattle.std.proofs.Common.{◌≡◌, ◌⊎◌, ℕ, ℤ, ◌+◌, ◌<◌, ◌≤◌, List, [], ◌∷◌, ◌++◌, length, map, slice_set, get_or, refl, sym, ◌∙◌, ap, subst, append-nil, arith, Option}
 use Rattle.std.specs.List.{AllZip, flat_map}
 use Rattle.venue_words.specs.declared.command.Command.{Command}
 use Rattle.venue_words.specs.declared.command.Event.{Event}
@@ -16,13 +16,13 @@ use Rattle.member_gate.specs.Desks as desks
 use Rattle.member_gate.specs.Submitting.{TookAll, TookNone, Stopped}
 use Rattle.member_gate.specs.Working.{AreUnread, work_of_frames}
 use Rattle.replay_core.specs.Doing.{IsDone, IsRefused}
-use Rattle.replay_core.specs.LineWork.{LineWork, ticked, tick_lines, work_of_moment, work_of_piece, work_of_bytes, work_of_open, work_of_quote, reconnected, recorded_by}
+use Rattle.replay_core.specs.LineWork.{LineWork, ticked, tick_lines, work_of_moment, work_of_piece, work_of_open, work_of_quote, reconnected, recorded_by}
 use Rattle.replay_core.specs.Output.{frame_lines}
 use Rattle.replay_core.specs.PlainFloor.{IsPlain, ShowsJournals}
 use Rattle.replay_core.specs.Playing.{Playing, Member, member_at}
 use Rattle.replay_core.specs.Pulling.{pulled, pull_lines, after_pulls, lines_of_pulls}
-use Rattle.replay_core.specs.Recording.{Recorded, recorded}
-use Rattle.replay_core.specs.Stages.{Kept, StandsFor, IsDeskOf, kept_of}
+use Rattle.replay_core.specs.Recording.{recorded}
+use Rattle.replay_core.specs.Stages.{StandsFor, IsDeskOf, kept_of}
 use Rattle.replay_core.proofs.DeskWork.{piece_same, desk_fed, fed}
 use Rattle.replay_core.proofs.FloorWork.{Took, took_all, none_full, no_steps}
 use Rattle.replay_core.proofs.OneByOne.{zip_at, zip_set}

@@ -1,13 +1,13 @@
 -- A line at a place, from what it comes to at the stage.
-use Rattle.std.proofs.Common.{◌≡◌, ◌⊎◌, ℕ, ◌≤◌, ◌<◌, ◌+◌, nat_lt, Bool, true, false, cond, List, [], length, Result, Ok, Err, refl, sym, ◌∙◌, ap, subst, inl, inr, arith}
+use Rattle.std.proofs.Common.{◌≡◌, ◌⊎◌, ℕ, ◌≤◌, ◌<◌, ◌+◌, nat_lt, true, false, List, [], length, Result, Ok, Err, refl, sym, ◌∙◌, ap, subst, inl, inr, arith}
 use Rattle.std.proofs.lemmas.Bool.Decides.{nat_tests}
 use Rattle.venue_words.specs.Floors.{SymbolView}
 use Rattle.script_text.specs.declared.fault.LineFault.{LineFault}
-use Rattle.script_text.specs.declared.fault.LineFault.TheVariants.{Bad, Limit, NoMemory}
+use Rattle.script_text.specs.declared.fault.LineFault.TheVariants.{Limit, NoMemory}
 use Rattle.script_text.specs.declared.fault.LimitCause.TheVariants.{Line, Bytes}
 use Rattle.script_text.specs.Header.{longest_line}
 use Rattle.script_text.specs.Lines.{has_end}
-use Rattle.replay_core.specs.Between.{Between, between}
+use Rattle.replay_core.specs.Between.{between}
 use Rattle.replay_core.specs.Phases.{IsAtStage}
 use Rattle.replay_core.specs.Play.{Place, Stage, Turned, Stepped, longest_script, step_at, weighed, placed, next_place, turned, over, over_fault}
 use Rattle.replay_core.specs.Reading.{IsAt}

@@ -4,7 +4,7 @@ use Rattle.venue_words.specs.declared.command.Event.{Event}
 use Rattle.venue_words.specs.Floors.{FloorMark, SymbolView, Records, TurnsRose, CostsAtMost}
 use Rattle.venue_words.specs.Journals.{event, StartsWith}
 use Rattle.member_gate.specs.Answering.{Submission}
-use Rattle.member_gate.specs.Submitting.{TookOne, TookAll}
+use Rattle.member_gate.specs.Submitting.{TookAll}
 
 took_at : {F : Type 0} (at : F → ℕ → SymbolView) (limit : FloorMark → ℕ → List Event → Event → Option ℕ) (mark : FloorMark) (feed : ℕ) (moment : ℤ) (one : Submission) (number : ℕ) (before after : F × ℕ)
     → Records (at before.0 one.symbol) (at after.0 one.symbol) number feed moment one.command

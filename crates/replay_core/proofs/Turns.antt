@@ -1,17 +1,15 @@
 -- A line at a stage of a script.
-use Rattle.std.proofs.Common.{◌≡◌, ◌⊎◌, ℕ, ◌≤◌, ◌+◌, Bool, true, false, List, [], Result, Ok, Err, refl, sym, ◌∙◌, ap, subst, inl, inr, arith}
+use Rattle.std.proofs.Common.{◌≡◌, ◌⊎◌, ℕ, ◌≤◌, ◌+◌, Bool, true, false, List, [], Ok, Err, refl, sym, ◌∙◌, ap, inl, inr}
 use Rattle.venue_words.specs.Floors.{SymbolView}
 use Rattle.script_text.specs.declared.header.Header.{Header}
 use Rattle.script_text.specs.declared.fault.LineFault.{LineFault}
 use Rattle.script_text.specs.declared.fault.LineFault.TheVariants.{NoMemory}
 use Rattle.script_text.specs.Header.{header_line}
-use Rattle.replay_core.specs.Meets.{Meets}
 use Rattle.replay_core.specs.Phases.{IsAtStage}
 use Rattle.replay_core.specs.Play.{Stage, Head, Body, turned, after_header, after_body}
-use Rattle.replay_core.specs.PlayLine.{Answer, play_line}
+use Rattle.replay_core.specs.PlayLine.{play_line}
 use Rattle.replay_core.specs.Playing.{Playing, before_body}
 use Rattle.replay_core.specs.Stages.{Kept, StandsFor}
-use Rattle.replay_core.specs.declared.phase.Phase.{Phase}
 use Rattle.replay_core.specs.declared.phase.Phase.TheVariants as phase
 
 pub head_refused : {F : Type 0} (at : F → ℕ → SymbolView) (n : ℕ) (header : Header) (stage : Stage) (text : List ℕ) (fault : LineFault)

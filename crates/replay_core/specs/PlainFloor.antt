@@ -5,7 +5,6 @@ use Rattle.venue_words.specs.declared.config.Config.{Config}
 use Rattle.venue_words.specs.declared.command.Event.{Event}
 use Rattle.venue_words.specs.Floors.{FloorMark, SymbolView, setup_of}
 use Rattle.eager_meaning.specs.State.{State}
-use Rattle.eager_meaning.specs.Step.{Run}
 use Rattle.replay_core.specs.Playing.{journal_at, run_in, reports_in}
 use Rattle.replay_core.specs.Recording.{most_steps}
 

@@ -1,5 +1,5 @@
 -- What a script makes, line by line.
-use Rattle.std.specs.Prelude.{ℕ, ◌+◌, Bool, true, false, List, [], ◌∷◌, ◌++◌, length, Option, Some, None, Result, Ok, Err, nat_lt, if◌then◌else◌}
+use Rattle.std.specs.Prelude.{ℕ, ◌+◌, Bool, List, [], ◌∷◌, ◌++◌, length, Option, Some, None, Result, Ok, Err, nat_lt, if◌then◌else◌}
 use Rattle.script_text.specs.Header.{header_line, blank, longest_line}
 use Rattle.script_text.specs.Lines.{cut}
 use Rattle.script_text.specs.declared.header.Header.{Header}

@@ -1,4 +1,4 @@
-use Rattle.std.proofs.Common.{◌≡◌, ◌<◌, ◌≤◌, ◌+◌, ◌++◌, ℕ, List, [], length, sym, ◌∙◌, ap, subst, arith, length-append, rules}
+use Rattle.std.proofs.Common.{◌≡◌, ◌<◌, ◌≤◌, ◌+◌, ◌++◌, ℕ, List, length, sym, ◌∙◌, ap, subst, arith, length-append}
 use Rattle.replay_core.specs.Between.{Between}
 use Rattle.replay_core.specs.Play.{longest_script}
 use Rattle.replay_core.specs.Reading.{IsAt}

@@ -1,5 +1,5 @@
 use Rattle.std.proofs.Common.{sym, ap, subst, get_or, slice_get, unwrap_or}
-use Rattle.member_gate.specs.Desks.{DeskView, connected_desk}
+use Rattle.member_gate.specs.Desks.{DeskView}
 use Rattle.replay_core.specs.LineWork.{reconnected}
 use Rattle.replay_core.specs.Stages.{IsDeskOf}
 use Rattle.replay_core.proofs.DeskWork.{desk_connected}

@@ -1,4 +1,4 @@
-use Rattle.std.proofs.Common.{◌≡◌, ◌<◌, ℤ, ◌++◌, sym, ◌∙◌, ap, subst, map, length, arith, w64, to_z, of_z, rules}
+use Rattle.std.proofs.Common.{◌≡◌, ◌<◌, ℤ, ◌++◌, ◌∙◌, subst, map, length, arith, w64, to_z, of_z, rules}
 use Rattle.std.specs.List.{AllZip, flat_map}
 use Rattle.std.proofs.lemmas.Slice.Zip.{AllZip-long}
 use Rattle.member_gate.specs.Desks.{DeskView}

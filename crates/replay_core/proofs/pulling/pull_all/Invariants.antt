@@ -1,4 +1,4 @@
-use Rattle.std.proofs.Common.{◌≡◌, ℕ, List, ◌++◌, take, drop, map, length}
+use Rattle.std.proofs.Common.{◌≡◌, List, ◌++◌, take, drop, map, length}
 use Rattle.std.specs.List.{AllZip, flat_map}
 use Rattle.venue_words.specs.declared.command.Event.{Event}
 use Rattle.replay_core.specs.PlainFloor.{ShowsJournals}

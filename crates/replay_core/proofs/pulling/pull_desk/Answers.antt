@@ -1,11 +1,8 @@
-use Rattle.std.proofs.Common.{◌≡◌, ℕ, ℤ, ◌<◌, ◌++◌, refl, append-nil, List, length, sym, ◌∙◌, ap, subst, w64, to_z, of_z, rules}
-use Rattle.venue_words.specs.declared.command.Event.{Event}
+use Rattle.std.proofs.Common.{◌≡◌, ℕ, ℤ, ◌++◌, refl, append-nil, List, length, sym, ◌∙◌, ap, subst, w64, to_z, of_z, rules}
 use Rattle.venue_words.specs.declared.report.Report.{Report}
 use Rattle.session_core.specs.Machine.{Outcome}
 use Rattle.member_gate.specs.Answering.{name_at}
 use Rattle.replay_core.specs.Output.{frame_lines}
-use Rattle.replay_core.specs.PlainFloor.{ShowsJournals}
-use Rattle.replay_core.specs.Playing.{Member, reports_at}
 use Rattle.replay_core.specs.Pulling.{pulled, pull_lines, sent_to}
 use Rattle.replay_core.specs.Stages.{IsDeskOf}
 use Rattle.replay_core.proofs.DeskWork.{always, weaker, desk_pulled, sends_same}

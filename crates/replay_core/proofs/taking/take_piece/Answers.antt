@@ -1,9 +1,8 @@
-use Rattle.std.proofs.Common.{◌≡◌, ◌<◌, ◌++◌, ℕ, ℤ, List, length, get_or, sym, ◌∙◌, ap, arith, w64, to_z, of_z, rules}
+use Rattle.std.proofs.Common.{◌≡◌, ◌<◌, ◌++◌, ℕ, List, length, get_or, ◌∙◌, ap, arith, w64, to_z, of_z, rules}
 use Rattle.session_core.specs.declared.turn.Turn.{Turn}
 use Rattle.member_gate.specs.Answering.{name_at}
 use Rattle.member_gate.specs.Desks.{DeskView}
 use Rattle.replay_core.specs.Output.{frame_lines}
-use Rattle.replay_core.specs.Playing.{Playing}
 use Rattle.replay_core.proofs.OneByOne.{number_at, numbers_step, all_desks, read_twice}
 use Rattle.replay_core.proofs.Standing.{Taken, Untaken, took_piece, done_piece, refused_piece}
 use Rattle.replay_core.proofs.taking.take_piece.Goals as goal

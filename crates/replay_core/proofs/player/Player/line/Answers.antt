@@ -1,4 +1,4 @@
-use Rattle.std.proofs.Common.{◌≡◌, ◌≤◌, ◌+◌, ℕ, List, sym, ◌∙◌, ap, subst, rules, arith, Ok}
+use Rattle.std.proofs.Common.{◌≡◌, ◌≤◌, ◌+◌, ℕ, sym, subst, Ok}
 use Rattle.venue_words.specs.declared.config.Config.{Config}
 use Rattle.script_text.specs.Body.{line_of}
 use Rattle.replay_core.specs.Stages.{Kept, StandsFor}

@@ -1,5 +1,4 @@
-use Rattle.std.proofs.Common.{◌≡◌, ◌<◌, ◌≤◌, ◌+◌, ◌++◌, ℕ, ℤ, List, [], ◌∷◌, length, sym, ◌∙◌, ap, subst, refl, arith, w64, to_z, of_z, rules}
-use Rattle.replay_core.specs.Playing.{Playing}
+use Rattle.std.proofs.Common.{◌≡◌, List, length, sym, ap, subst, arith, w64, to_z, of_z, rules}
 use Rattle.venue_words.specs.declared.config.Config.{Config}
 use Rattle.replay_core.specs.Stages.{Kept, StandsFor, kept_of}
 use Rattle.std.proofs.lemmas.List.{with_items_is}

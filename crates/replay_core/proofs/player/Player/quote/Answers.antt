@@ -1,6 +1,5 @@
-use Rattle.std.proofs.Common.{◌≡◌, ◌<◌, ◌≤◌, ◌+◌, ◌++◌, ℕ, ℤ, List, [], ◌∷◌, length, sym, ◌∙◌, ap, subst, refl, arith, w64, to_z, of_z, rules}
-use Rattle.replay_core.specs.Playing.{Playing}
-use Rattle.replay_core.specs.Stages.{Kept, StandsFor, kept_of}
+use Rattle.std.proofs.Common.{◌≡◌, [], ◌∷◌, sym, subst, w64, to_z, of_z, rules}
+use Rattle.replay_core.specs.Stages.{Kept, StandsFor}
 use Rattle.replay_core.proofs.Standing.{Sent, Unsent, took_quote, done_quote, refused_quote, unsent_steps}
 use Rattle.replay_core.proofs.player.Player.quote.Goals as goal
 

@@ -1,7 +1,6 @@
-use Rattle.std.proofs.Common.{◌≡◌, ◌<◌, ◌≤◌, ◌+◌, ◌++◌, ℕ, ℤ, List, [], ◌∷◌, length, sym, ◌∙◌, ap, subst, refl, arith, w64, to_z, of_z, rules}
+use Rattle.std.proofs.Common.{◌≡◌, ℤ, List, sym, subst, arith, w64, to_z, of_z, rules}
 use Rattle.std.proofs.lemmas.List.{with_items_is}
 use Rattle.member_gate.specs.Desks.{DeskView}
-use Rattle.replay_core.specs.Playing.{Playing}
 use Rattle.replay_core.specs.Stages.{Kept, StandsFor, kept_of}
 use Rattle.replay_core.specs.Doing.{IsDone}
 use Rattle.replay_core.specs.LineWork.{work_of_piece}

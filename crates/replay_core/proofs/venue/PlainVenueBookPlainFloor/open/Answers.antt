@@ -1,4 +1,3 @@
-use Rattle.std.proofs.Common.{rules}
 use Rattle.replay_core.proofs.Settings.{plain_venue, empty_venue, both_ok}
 use Rattle.replay_core.proofs.venue.PlainVenueBookPlainFloor.open.Goals as goal
 
