@@ -70,9 +70,10 @@ fn output_comes_before_the_last_bytes_of_a_long_script_are_read(
 ) -> Result<(), Fail> {
     let alloc = rt.alloc();
     let mut script = String::from_str(alloc, LOGGED_ON)?;
-    while script.len() < 200_000 {
+    for _ in 0..12_000 {
         script.push_str("Q X N 10.00 10.01\n")?;
     }
+    assert!(rt; script.len() > 200_000);
     let calls = Cell::new(0);
     let files = vec![in alloc; (String::from_str(alloc, "s")?, script.into_bytes())]?;
     let mut shelf = NotingShelf {
