@@ -131,25 +131,27 @@ fn compare<L: Ledger>(
     Ok(wanted.as_str().split("Traded").skip(1).count())
 }
 
-/// Compares each day of a text.
+/// Compares each day of a text, and answers how many there are.
 fn compare_days<L: Ledger>(
     rt: &impl Abort,
     alloc: Global,
     tick: u32,
     days: &str,
     steps: &mut Steps<L>,
-) -> Result<(), Fail>
+) -> Result<u32, Fail>
     requires { IsTick tick }
 {
+    let mut count = 0u32;
     for day in days.split("# ") {
         if let Some((name, commands)) = day.split_once('\n') {
             let commands = commands.trim();
             let events = events_of(alloc, commands)?;
             let same = events_of(alloc, commands)?;
             compare(rt, alloc, tick, name, events, same, steps)?;
+            count = count.saturating_add(1);
         }
     }
-    Ok(())
+    Ok(count)
 }
 
 fn compare_all_days<L: Ledger>(rt: &impl Abort, alloc: Global, blank: Blank) -> Result<(), Fail>
@@ -158,8 +160,11 @@ fn compare_all_days<L: Ledger>(rt: &impl Abort, alloc: Global, blank: Blank) -> 
     requires one { blank.parts ≡ 1 }
 {
     let mut steps = Steps::<L>::start(blank);
-    compare_days(rt, alloc, 2, DAYS, &mut steps)?;
-    compare_days(rt, alloc, 10, FIVE_CENT_DAYS, &mut steps)
+    let days = compare_days(rt, alloc, 2, DAYS, &mut steps)?;
+    assert_eq!(rt; days, 25);
+    let days = compare_days(rt, alloc, 10, FIVE_CENT_DAYS, &mut steps)?;
+    assert_eq!(rt; days, 2);
+    Ok(())
 }
 
 #[test]

@@ -1,5 +1,5 @@
-//! Worked days as text: a line with a name begins each. Their reports are written out in the tests of `eager_meaning`, whose plain
-//! program is compared with them there.
+//! Worked days as text: a line with a name begins each. Their reports are written out in the tests of `eager_meaning`, whose
+//! plain program is compared with them there.
 
 /// Days of a symbol whose tick is 0.01.
 pub const DAYS: &str = "# missing quote
