@@ -34,7 +34,7 @@ pub trait Engine {
     /// The last event at which a row entered or all were priced.
     ghost latest: { Self → ℕ };
 
-    /// The trades of the last `requote` or `enter`, in their order.
+    /// The trades of the last `requote` or `enter`, in their order. `reserve` may forget them.
     ghost fills: { Self → List Fill };
 
     /// How many things a call that goes over both sides may visit.
@@ -56,7 +56,7 @@ pub trait Engine {
         ensures width { OnOk result (width self.new ≤ key_count (buys self.old ++ sells self.old) + 1) }
         ensures no_key { OnOk result (key ≡ None → width self.new ≤ key_count (buys self.old ++ sells self.old)) };
 
-    /// The trades of the last `requote` or `enter`.
+    /// The trades of the last `requote` or `enter`, if no room was made since.
     fn fills(&self) -> &[Fill]
         ensures { result.now ≡ fills self.now };
 

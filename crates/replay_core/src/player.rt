@@ -49,7 +49,8 @@ impl<F: PlainFloor> Model for Player<F> {
 
     ghost view = { λ p. kept_of p.config p.floor p.desks.items p.moment };
 
-    ghost invariant = { λ p. IsConfig p.config × IsPlain F.mark F.at F.step_limit F.state p.config (F.mark p.floor) × AreDesks p.config p.desks.items };
+    ghost invariant = { λ p. IsConfig p.config × IsPlain F.mark F.at F.step_limit F.state p.config (F.mark p.floor)
+        × AreDesks p.config p.desks.items };
 }
 
 /// A desk for each member of a config, in their order.

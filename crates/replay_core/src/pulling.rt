@@ -46,10 +46,12 @@ fn pull_desk<F: PlainFloor>(
     requires member { desk.old.member ≡ number }
     requires within { number < length config.now.members }
     requires fronts { ShowsFronts F.at config.now floor.old fronts.now }
-    ensures desk { OnOk result ((journals : List (List Event)) (member : Member) → ShowsJournals F.at config.now floor.old journals
+    ensures desk { OnOk result ((journals : List (List Event)) (member : Member)
+        → ShowsJournals F.at config.now floor.old journals
         → IsDeskOf (length config.now.symbols) desk.old member
         → IsDeskOf (length config.now.symbols) desk.new (pulled config.now moment journals member)) }
-    ensures text { OnOk result ((journals : List (List Event)) (member : Member) → ShowsJournals F.at config.now floor.old journals
+    ensures text { OnOk result ((journals : List (List Event)) (member : Member)
+        → ShowsJournals F.at config.now floor.old journals
         → IsDeskOf (length config.now.symbols) desk.old member
         → out.new.items ≡ out.old.items ++ pull_lines config.now moment journals member) }
     ensures number { desk.new.member ≡ desk.old.member }
@@ -79,10 +81,12 @@ pub fn pull_all<F: PlainFloor>(
     requires config { IsConfig config.now }
     requires plain { IsPlain F.mark F.at F.step_limit F.state config.now (F.mark floor.old) }
     requires desks { AreDesks config.now desks.old }
-    ensures desks { OnOk result ((journals : List (List Event)) (members : List Member) → ShowsJournals F.at config.now floor.old journals
+    ensures desks { OnOk result ((journals : List (List Event)) (members : List Member)
+        → ShowsJournals F.at config.now floor.old journals
         → AllZip (IsDeskOf (length config.now.symbols)) desks.old members
         → AllZip (IsDeskOf (length config.now.symbols)) desks.new (map (pulled config.now moment journals) members)) }
-    ensures text { OnOk result ((journals : List (List Event)) (members : List Member) → ShowsJournals F.at config.now floor.old journals
+    ensures text { OnOk result ((journals : List (List Event)) (members : List Member)
+        → ShowsJournals F.at config.now floor.old journals
         → AllZip (IsDeskOf (length config.now.symbols)) desks.old members
         → out.new.items ≡ out.old.items ++ flat_map (pull_lines config.now moment journals) members) }
     ensures numbers { OnOk result (AreDesks config.now desks.new) }

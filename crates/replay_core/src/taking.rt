@@ -30,9 +30,11 @@ pub fn take_piece<F: PlainFloor, L: Ledger>(
     requires desks { AreDesks config.now desks.old }
     requires member { number < length config.now.members }
     ensures done { OnOk result ((playing : Playing) → StandsFor F.at (kept_of config.now floor.old desks.old moment) playing
-        → IsDone F.at (kept_of config.now floor.new desks.new moment) (work_of_piece playing number piece.now) out.old.items out.new.items) }
+        → IsDone F.at (kept_of config.now floor.new desks.new moment) (work_of_piece playing number piece.now)
+        out.old.items out.new.items) }
     ensures refused { IfErr result (λ refusal. (playing : Playing)
-        → StandsFor F.at (kept_of config.now floor.old desks.old moment) playing → IsRefused refusal (work_of_piece playing number piece.now)) }
+        → StandsFor F.at (kept_of config.now floor.old desks.old moment) playing
+        → IsRefused refusal (work_of_piece playing number piece.now)) }
     ensures steps { (playing : Playing) → StandsFor F.at (kept_of config.now floor.old desks.old moment) playing
         → steps.new ≤ steps.old + (recorded_by (work_of_piece playing number piece.now)).steps }
     ensures numbers { OnOk result (AreDesks config.now desks.new) }

@@ -55,7 +55,8 @@ fn line_text(alloc: Global, line: u32, middle: &str, name: &str) -> Result<Strin
 fn put_text<E: Sink>(text: &[u8], status: Status, err: &mut E) -> Status
     requires { text.now ≡ status_text status }
     ensures kept { (result ≡ status) ⊎ ((result ≡ Status.WriteFault) × Rose (E.faults err.old) (E.faults err.new)) }
-    ensures text { (Rose (E.faults err.old) (E.faults err.new) → ⊥) → Appends (E.told err.old) (E.told err.new) (status_text result) }
+    ensures text { (Rose (E.faults err.old) (E.faults err.new) → ⊥)
+        → Appends (E.told err.old) (E.told err.new) (status_text result) }
     ensures later { E.faults err.old ≤ E.faults err.new }
 {
     match err.put(text) {
@@ -68,7 +69,8 @@ fn put_text<E: Sink>(text: &[u8], status: Status, err: &mut E) -> Status
 fn put_fixed<E: Sink>(text: &[u8], status: Status, err: &mut E) -> Status
     requires { text.now ≡ status_text status }
     ensures kept { result ≡ status }
-    ensures text { (Rose (E.faults err.old) (E.faults err.new) → ⊥) → Appends (E.told err.old) (E.told err.new) (status_text result) }
+    ensures text { (Rose (E.faults err.old) (E.faults err.new) → ⊥)
+        → Appends (E.told err.old) (E.told err.new) (status_text result) }
     ensures later { E.faults err.old ≤ E.faults err.new }
 {
     let _ = err.put(text);
@@ -78,8 +80,10 @@ fn put_fixed<E: Sink>(text: &[u8], status: Status, err: &mut E) -> Status
 /// Puts the text of a refused line, or that of wanted memory.
 fn tell_line<E: Sink>(text: Result<String, AllocError>, status: Status, err: &mut E) -> Status
     requires { IfOk text (λ text. string_bytes text ≡ status_text status) }
-    ensures told { ((result ≡ status) ⊎ (result ≡ Status.NoMemory)) ⊎ ((result ≡ Status.WriteFault) × Rose (E.faults err.old) (E.faults err.new)) }
-    ensures text { (Rose (E.faults err.old) (E.faults err.new) → ⊥) → Appends (E.told err.old) (E.told err.new) (status_text result) }
+    ensures told { ((result ≡ status) ⊎ (result ≡ Status.NoMemory))
+        ⊎ ((result ≡ Status.WriteFault) × Rose (E.faults err.old) (E.faults err.new)) }
+    ensures text { (Rose (E.faults err.old) (E.faults err.new) → ⊥)
+        → Appends (E.told err.old) (E.told err.new) (status_text result) }
     ensures later { E.faults err.old ≤ E.faults err.new }
 {
     match text {
@@ -91,7 +95,8 @@ fn tell_line<E: Sink>(text: Result<String, AllocError>, status: Status, err: &mu
 /// Puts the text of a status once, and gives the status that this makes of it.
 pub fn tell<E: Sink>(alloc: Global, status: Status, err: &mut E) -> Status
     ensures told { Told status result (Rose (E.faults err.old) (E.faults err.new)) }
-    ensures text { (Rose (E.faults err.old) (E.faults err.new) → ⊥) → Appends (E.told err.old) (E.told err.new) (status_text result) }
+    ensures text { (Rose (E.faults err.old) (E.faults err.new) → ⊥)
+        → Appends (E.told err.old) (E.told err.new) (status_text result) }
     ensures later { E.faults err.old ≤ E.faults err.new }
 {
     match status {
