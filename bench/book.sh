@@ -82,7 +82,7 @@ fn quote(number: u32) -> Command {
 
 fn submit<L: Ledger>(book: &mut Book, command: Command, steps: &mut Steps<L>) -> bool {
     if book.takes(&command) {
-        book.submit(1, 0, command, steps).is_ok()
+        book.submit(1, 0, &command, steps).is_ok()
     } else {
         false
     }

@@ -15,7 +15,7 @@ use Rattle.eager_meaning.specs.Matching.{takes_of, fill_price, fills_of, row_aft
 use Rattle.eager_meaning.specs.Recheck.{meet, crosses_any, sweep, recheck}
 use Rattle.eager_meaning.specs.Terms.{key_of, row_of, price_in, offset_in, quantity_in, minimum_in}
 use Rattle.eager_meaning.specs.Verdict.{terms_tests, first_broken, verdict}
-use Rattle.eager_meaning.specs.Showing.{view_closed, view_at, view_of, row_of_order}
+use Rattle.eager_meaning.specs.Showing.{view_with, row_of_order}
 use Rattle.eager_meaning.specs.Orders.{order_named, live_named, is_used, known_of}
 use Rattle.eager_meaning.specs.Trades.{order_after, orders_after, orders_after_all, trade_notice, trade_notices}
 use Rattle.eager_meaning.specs.Quoting.{requote, on_quote}
@@ -112,7 +112,7 @@ worked :
 unfolding
     best_of peg_value value_under retime reprice in_priority goes_before is_older floor may_fill taken_from walk stands
     takes_of fill_price fills_of row_after shares_of rows_after meet crosses_any sweep recheck key_of row_of price_in
-    offset_in quantity_in minimum_in terms_tests first_broken verdict view_closed view_at view_of row_of_order order_named
+    offset_in quantity_in minimum_in terms_tests first_broken verdict view_with row_of_order order_named
     live_named is_used known_of order_after orders_after orders_after_all trade_notice trade_notices requote on_quote
     entered leftover_notices enter accepted_order arrival_of_new on_new arrival_of_replace only_lowers outcome_of
     reports_from step runs

@@ -1,30 +1,35 @@
 -- How a live order is canceled or replaced.
-use Rattle.std.specs.Prelude.{ℕ, ◌-◌, Bool, not, ◌&&◌, nat_le, ◌==◌, if◌then◌else◌, List, map, filter, Option, Some}
+use Rattle.std.specs.Prelude.{ℕ, ◌-◌, Bool, not, ◌&&◌, nat_le, ◌==◌, if◌then◌else◌, List, map, filter, Option, Some, option_map}
 use Rattle.std.specs.Option.{option_map_or}
 use Rattle.venue_words.specs.declared.row.Priced.{Priced}
 use Rattle.venue_words.specs.declared.command.Terms.{Terms}
 use Rattle.venue_words.specs.declared.command.Rule.{Rule}
+use Rattle.venue_words.specs.declared.report.Execution.TheVariants.{Canceled, Replaced}
 use Rattle.venue_words.specs.declared.report.Kind.{Kind}
-use Rattle.venue_words.specs.declared.report.Kind.TheVariants.{Canceled, Replaced, Refused}
+use Rattle.venue_words.specs.declared.report.Kind.TheVariants.{Order as OrderReport, Refused}
+use Rattle.venue_words.specs.declared.report.NamedOrder.{NamedOrder}
+use Rattle.venue_words.specs.declared.report.RefusedRequest.{RefusedRequest}
+use Rattle.venue_words.specs.declared.report.RefusedRequest.TheVariants.{Cancel as CancelRequest, Replace as ReplaceRequest}
+use Rattle.venue_words.specs.Reports.{live_status}
 use Rattle.venue_words.specs.Key.{same_key}
 use Rattle.eager_meaning.specs.declared.order.Order.{Order}
 use Rattle.eager_meaning.specs.declared.order.Live.{Live}
 use Rattle.eager_meaning.specs.Terms.{quantity_of, limit_of, row_of, is_immediate, is_pegged}
 use Rattle.eager_meaning.specs.Floor.{same_method}
 use Rattle.eager_meaning.specs.Orders.{changed_at}
-use Rattle.eager_meaning.specs.Showing.{view_of, view_closed, live_state}
+use Rattle.eager_meaning.specs.Showing.{view_of, view_closed}
 use Rattle.eager_meaning.specs.State.{State, Outcome, with_used, with_no_notice, with_notice}
 use Rattle.eager_meaning.specs.Entering.{Arrival, priced_now, enter}
 
 -- ---- refusals
 
--- a refusal of a cancel (answer `1`) or of a replace (answer `2`), with the live order that it names, or none
-abbrev pub refusal : ℕ → List ℕ → List ℕ → Option Live → Rule → Kind
-refusal answer id orig live rule =
-    Refused id orig
-    (option_map_or (λ found. found.order.first) live 0)
-    (option_map_or (λ found. live_state found.order) live 56)
-    answer rule
+-- how a refusal names a live order
+abbrev pub named_order : Live → NamedOrder
+named_order live = record { first = live.order.first; status = live_status live.order.cum }
+
+-- a refusal of a cancel or of a replace, with the live order that it names, or none
+abbrev pub refusal : RefusedRequest → List ℕ → List ℕ → Option Live → Rule → Kind
+refusal request id orig live rule = Refused id orig (option_map named_order live) request rule
 
 -- ---- cancels
 
@@ -39,13 +44,13 @@ without_row x s = record s { buys = without x.row.entry s.buys; sells = without 
 -- the order leaves; its report has the id of the cancel
 unfoldable pub cancel : ℕ → List ℕ → List ℕ → Live → State → Outcome
 cancel member id orig live s =
-    with_notice member (Canceled (record (view_closed live.order) { id = id }) (Some orig))
+    with_notice member (OrderReport (record (view_closed live.order) { id = id }) (Canceled (Some orig)))
     (without_row live.row (with_used member id s))
 
 -- a Cancel, with the live order that it names and the rule that it breaks, or none: it is refused, or the order leaves
 unfoldable pub on_cancel : ℕ → List ℕ → List ℕ → Option Live → Option Rule → State → Outcome
 on_cancel member id orig live broken s =
-    option_map_or (λ rule. with_notice member (refusal 49 id orig live rule) s) broken
+    option_map_or (λ rule. with_notice member (refusal CancelRequest id orig live rule) s) broken
     (option_map_or (λ found. cancel member id orig found s) live (with_no_notice s))
 
 -- ---- replaces
@@ -82,7 +87,7 @@ resize tick member id orig terms live s =
     let leaves = order.quantity - order.cum in
     let entry = live.row.row.entry in
     let next = with_replaced tick member id terms live s in
-    with_notice member (Replaced (view_of order (Some live.row)) orig)
+    with_notice member (OrderReport (view_of order (Some live.row)) (Replaced orig))
     (record next { buys = map (with_leaves entry leaves) next.buys; sells = map (with_leaves entry leaves) next.sells })
 
 -- an order that a replace takes out and enters anew
@@ -94,7 +99,7 @@ arrival_of_replace tick event member id orig terms live s =
       taker = x;
       immediate = is_immediate terms;
       state = without_row live.row (with_replaced tick member id terms live s);
-      notice = record { member = member; kind = Replaced (view_of order (Some x)) orig };
+      notice = record { member = member; kind = OrderReport (view_of order (Some x)) (Replaced orig) };
     }
 
 -- a Replace that breaks no rule: the quantity changes, or the order enters anew
@@ -107,5 +112,5 @@ replace tick event member id orig terms live s =
 -- a Replace, with the live order that it names and the rule that it breaks, or none
 unfoldable pub on_replace : ℕ → ℕ → ℕ → List ℕ → List ℕ → Terms → Option Live → Option Rule → State → Outcome
 on_replace tick event member id orig terms live broken s =
-    option_map_or (λ rule. with_notice member (refusal 50 id orig live rule) s) broken
+    option_map_or (λ rule. with_notice member (refusal ReplaceRequest id orig live rule) s) broken
     (option_map_or (λ found. replace tick event member id orig terms found s) live (with_no_notice s))

@@ -5,7 +5,8 @@ use Rattle.venue_words.specs.declared.row.Row.{Row}
 use Rattle.venue_words.specs.declared.row.Priced.{Priced}
 use Rattle.venue_words.specs.declared.command.Terms.{Terms}
 use Rattle.venue_words.specs.declared.command.Rule.{Rule}
-use Rattle.venue_words.specs.declared.report.Kind.TheVariants.{Accepted, Canceled, Rejected}
+use Rattle.venue_words.specs.declared.report.Execution.TheVariants.{Accepted, Canceled}
+use Rattle.venue_words.specs.declared.report.Kind.TheVariants.{Order as OrderReport, Rejected}
 use Rattle.venue_words.specs.Best.{best_of}
 use Rattle.venue_words.specs.Peg.{value_under}
 use Rattle.eager_meaning.specs.declared.trade.Fill.{Fill}
@@ -49,7 +50,7 @@ abbrev pub leftover_notice : ℕ → List Order → List Notice
 leftover_notice number orders =
     option_to_list
     (option_map
-    (λ order. record { member = order.member; kind = Canceled (view_closed order) None })
+    (λ order. record { member = order.member; kind = OrderReport (view_closed order) (Canceled None) })
     (slice_get orders number))
 
 -- what is left of an order that stays only to trade at once is canceled
@@ -103,7 +104,7 @@ arrival_of_new tick event member id terms s =
       taker = x;
       immediate = is_immediate terms;
       state = with_accepted member id order s;
-      notice = record { member = member; kind = Accepted (view_of order (Some x)) };
+      notice = record { member = member; kind = OrderReport (view_of order (Some x)) Accepted };
     }
 
 -- a New, with the rule that it breaks or none: it is rejected, or it enters

@@ -1,68 +1,45 @@
 -- How reports show an order.
-use Rattle.std.specs.Prelude.{ℕ, ◌-◌, nat_lt, ◌==◌, if◌then◌else◌, List, Option, Some, None, find}
+use Rattle.std.specs.Prelude.{ℕ, ◌-◌, nat_lt, ◌==◌, if◌then◌else◌, List, Option, Some, None, option_and_then, find}
 use Rattle.venue_words.specs.declared.row.Priced.{Priced}
+use Rattle.venue_words.specs.declared.report.LiveOrder.{LiveOrder}
 use Rattle.venue_words.specs.declared.report.View.{View}
 use Rattle.venue_words.specs.Price.{price_shown}
 use Rattle.eager_meaning.specs.declared.order.Order.{Order}
 use Rattle.eager_meaning.specs.declared.trade.Party.{Party}
 
--- the code of a live order's state: `0`, or `1` once it has traded
-abbrev pub live_state : Order → ℕ
-live_state order = if order.cum == 0 then 48 else 49
+-- what an order has at a price and a time: it is live while shares are left
+abbrev pub live_at : Order → Option ℕ → ℕ → Option LiveOrder
+live_at order price time =
+    if nat_lt order.cum order.quantity
+    then Some (record { leaves = order.quantity - order.cum; price = price; time = time })
+    else None
 
--- the code of the state of an order that has left: `2` filled, or `4` canceled
-abbrev pub closed_state : Order → ℕ
-closed_state order = if order.cum == order.quantity then 50 else 52
+-- an order with what it has while it is live
+unfoldable pub view_with : Order → Option LiveOrder → View
+view_with order live =
+    record {
+      first = order.first;
+      id = order.id;
+      side = order.side;
+      quantity = order.quantity;
+      pegged = order.pegged;
+      limit = order.limit;
+      cum = order.cum;
+      notional = order.notional;
+      live = live;
+    }
 
 -- an order that has left
-unfoldable pub view_closed : Order → View
-view_closed order =
-    record {
-      first = order.first;
-      id = order.id;
-      side = order.side;
-      quantity = order.quantity;
-      pegged = order.pegged;
-      limit = order.limit;
-      cum = order.cum;
-      notional = order.notional;
-      leaves = 0;
-      state = closed_state order;
-      price = None;
-      time = 0;
-    }
+abbrev pub view_closed : Order → View
+view_closed order = view_with order None
 
--- a live order, with a price and a time
-unfoldable pub view_at : Order → Option ℕ → ℕ → View
-view_at order price time =
-    record {
-      first = order.first;
-      id = order.id;
-      side = order.side;
-      quantity = order.quantity;
-      pegged = order.pegged;
-      limit = order.limit;
-      cum = order.cum;
-      notional = order.notional;
-      leaves = order.quantity - order.cum;
-      state = live_state order;
-      price = price;
-      time = time;
-    }
-
--- a live order, with its row's price and time
-abbrev pub view_live : Order → Priced → View
-view_live order x = view_at order (price_shown x) x.time
-
--- an order after a trade of which it is a party: it is live while shares are left
-unfoldable pub view_traded : Order → Party → View
-view_traded order party =
-    if nat_lt order.cum order.quantity then view_at order party.price party.time else view_closed order
+-- an order after a trade of which it is a party
+abbrev pub view_traded : Order → Party → View
+view_traded order party = view_with order (live_at order party.price party.time)
 
 -- an order with the row that it has or had
-unfoldable pub view_of : Order → Option Priced → View
-view_of order None = view_closed order
-view_of order (Some x) = if nat_lt order.cum order.quantity then view_live order x else view_closed order
+abbrev pub view_of : Order → Option Priced → View
+view_of order row = view_with order (option_and_then (λ x. live_at order (price_shown x) x.time) row)
 
 -- the row of an order, where it has one
 unfoldable pub row_of_order : ℕ → List Priced → Option Priced

@@ -6,7 +6,8 @@ use Rattle.venue_words.specs.declared.command.Command.{Command}
 use Rattle.venue_words.specs.declared.command.Command.TheVariants.{Quote, New, Cancel, Replace, Status as Request}
 use Rattle.venue_words.specs.declared.report.Report.{Report}
 use Rattle.venue_words.specs.declared.report.View.{View}
-use Rattle.venue_words.specs.declared.report.Kind.TheVariants.{Status, Unknown}
+use Rattle.venue_words.specs.declared.report.Execution.TheVariants.{Status}
+use Rattle.venue_words.specs.declared.report.Kind.TheVariants.{Order as OrderReport, Unknown}
 use Rattle.eager_meaning.specs.declared.order.Order.{Order}
 use Rattle.eager_meaning.specs.declared.notice.Notice.{Notice}
 use Rattle.eager_meaning.specs.State.{State, Outcome, resting, initial, with_notice}
@@ -25,7 +26,7 @@ view_now s found = view_of found.1 (row_of_order found.0 (resting s))
 unfoldable pub on_status : ℕ → List ℕ → ℕ → State → Outcome
 on_status member id side s =
     with_notice member
-    (option_map_or (λ found. Status (view_now s found)) (order_named member id s.orders) (Unknown id side)) s
+    (option_map_or (λ found. OrderReport (view_now s found) Status) (order_named member id s.orders) (Unknown id side)) s
 
 -- what a command does at an event, in the book of a symbol with this tick
 unfoldable pub outcome_of : ℕ → ℕ → Command → State → Outcome

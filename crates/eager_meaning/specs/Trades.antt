@@ -1,6 +1,7 @@
 -- What trades make of the orders, and what the two orders of each are told.
 use Rattle.std.specs.Prelude.{◌+◌, ◌*◌, List, [], ◌∷◌, ◌++◌, fold, slice_get, option_map, option_to_list}
-use Rattle.venue_words.specs.declared.report.Kind.TheVariants.{Traded}
+use Rattle.venue_words.specs.declared.report.Execution.TheVariants.{Traded}
+use Rattle.venue_words.specs.declared.report.Kind.TheVariants.{Order as OrderReport}
 use Rattle.eager_meaning.specs.declared.trade.Fill.{Fill}
 use Rattle.eager_meaning.specs.declared.trade.Party.{Party}
 use Rattle.eager_meaning.specs.declared.order.Order.{Order}
@@ -27,7 +28,10 @@ unfoldable pub trade_notice : Fill → List Order → Party → List Notice
 trade_notice fill orders party =
     option_to_list
     (option_map
-    (λ order. record { member = order.member; kind = Traded (view_traded order party) fill.quantity fill.price })
+    (λ order. record {
+      member = order.member;
+      kind = OrderReport (view_traded order party) (Traded fill.quantity fill.price);
+    })
     (slice_get orders party.order))
 
 -- the notices of trades, each to the taker and then to the contra

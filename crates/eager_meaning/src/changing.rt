@@ -4,39 +4,45 @@ ghost use Rattle.venue_words.specs.Conditions.{IsTick};
 ghost use Rattle.eager_meaning.specs.Floor.{same_method};
 ghost use Rattle.eager_meaning.specs.Orders.{changed_at};
 ghost use Rattle.eager_meaning.specs.Entering.{enter};
-ghost use Rattle.eager_meaning.specs.Changing.{refusal, without, cancel, on_cancel, replaced_order, with_replaced, only_lowers, with_leaves, resize, arrival_of_replace, on_replace};
+ghost use Rattle.eager_meaning.specs.Changing.{named_order, refusal, without, cancel, on_cancel, replaced_order, with_replaced, only_lowers, with_leaves, resize, arrival_of_replace, on_replace};
 
 use crate::notice::{Notice, one_notice};
 use crate::order::{Live, Order};
 use crate::plain::Plain;
-use crate::showing::{live_state, view_closed, view_of};
+use crate::showing::{view_closed, view_of};
 use crate::terms::{is_immediate, is_pegged, limit_of, quantity_of, row_of};
 use std::alloc::{AllocError, Global};
-use venue_words::{Bytes, Kind, Method, Priced, Row, Rule, Terms, same_key};
+use venue_words::{
+    Bytes, Execution, Kind, Method, NamedOrder, OrderStatus, Priced, RefusedRequest, Row, Rule,
+    Terms, same_key,
+};
+
+/// How a refusal names a live order.
+fn named_order(live: &Live) -> NamedOrder
+    ensures { result ≡ named_order live.now }
+{
+    NamedOrder {
+        first: live.order.first,
+        status: OrderStatus::of_live(live.order.cum),
+    }
+}
 
 /// A refusal of a cancel or of a replace.
 fn refusal(
     alloc: Global,
-    answer: u8,
+    request: RefusedRequest,
     id: &Bytes,
     orig: &Bytes,
     live: &Option<Live>,
     rule: Rule,
 ) -> Result<Kind, AllocError>
-    ensures { IfOk result (λ kind. kind ≡ refusal answer id.now orig.now live.now rule) }
+    ensures { IfOk result (λ kind. kind ≡ refusal request id.now orig.now live.now rule) }
 {
-    let id = Bytes::copy_of(alloc, id.as_slice())?;
-    let orig = Bytes::copy_of(alloc, orig.as_slice())?;
-    let (first, state) = match live {
-        Some(found) => (found.order.first, live_state(&found.order)),
-        None => (0, b'8'),
-    };
     Ok(Kind::Refused {
-        id,
-        orig,
-        first,
-        state,
-        answer,
+        id: Bytes::copy_of(alloc, id.as_slice())?,
+        orig: Bytes::copy_of(alloc, orig.as_slice())?,
+        order: live.as_ref().map(named_order),
+        request,
         rule,
     })
 }
@@ -176,9 +182,9 @@ impl Plain {
         one_notice(
             alloc,
             member,
-            Kind::Canceled {
+            Kind::Order {
                 view,
-                orig: Some(orig),
+                execution: Execution::Canceled { orig: Some(orig) },
             },
         )
     }
@@ -200,7 +206,7 @@ impl Plain {
     {
         match (broken, live) {
             (Some(rule), live) => {
-                let kind = refusal(alloc, b'1', id, orig, live, rule)?;
+                let kind = refusal(alloc, RefusedRequest::Cancel, id, orig, live, rule)?;
                 one_notice(alloc, member, kind)
             }
             (None, Some(found)) => self.cancel(alloc, member, id, orig, found),
@@ -253,7 +259,14 @@ impl Plain {
         self.set_terms(alloc, tick, member, id, terms, live)?;
         self.buys = all_with_leaves(alloc, entry, leaves, &self.buys)?;
         self.sells = all_with_leaves(alloc, entry, leaves, &self.sells)?;
-        one_notice(alloc, member, Kind::Replaced { view, orig })
+        one_notice(
+            alloc,
+            member,
+            Kind::Order {
+                view,
+                execution: Execution::Replaced { orig },
+            },
+        )
     }
 
     /// A live order leaves and enters anew.
@@ -288,7 +301,10 @@ impl Plain {
             is_immediate(terms),
             Notice {
                 member,
-                kind: Kind::Replaced { view, orig },
+                kind: Kind::Order {
+                    view,
+                    execution: Execution::Replaced { orig },
+                },
             },
         )
     }
@@ -315,7 +331,7 @@ impl Plain {
     {
         match (broken, live) {
             (Some(rule), live) => {
-                let kind = refusal(alloc, b'2', id, orig, live, rule)?;
+                let kind = refusal(alloc, RefusedRequest::Replace, id, orig, live, rule)?;
                 one_notice(alloc, member, kind)
             }
             (None, Some(found)) => {

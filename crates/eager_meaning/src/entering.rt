@@ -15,7 +15,7 @@ use crate::trade::Fill;
 use crate::trading::push_trade_notices;
 use std::alloc::{AllocError, Global};
 use std::marker::Model;
-use venue_words::{Bytes, Kind, Priced, Row, Rule, Side, Terms};
+use venue_words::{Bytes, Execution, Kind, Priced, Row, Rule, Side, Terms};
 
 /// The rows and trades after an order entered, and what is left of it.
 #[derive(Drop)]
@@ -105,7 +105,10 @@ fn push_leftover(
         let view = view_closed(alloc, order)?;
         notices.push(Notice {
             member: order.member,
-            kind: Kind::Canceled { view, orig: None },
+            kind: Kind::Order {
+                view,
+                execution: Execution::Canceled { orig: None },
+            },
         })?;
     }
     Ok(())
@@ -238,7 +241,10 @@ impl Plain {
             is_immediate(terms),
             Notice {
                 member,
-                kind: Kind::Accepted(view),
+                kind: Kind::Order {
+                    view,
+                    execution: Execution::Accepted,
+                },
             },
         )
     }

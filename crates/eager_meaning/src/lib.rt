@@ -28,9 +28,7 @@ pub use order::{Live, Order};
 pub use pegging::{best_of, national, peg_value, row_value, value_under};
 pub use plain::plain_run;
 pub use rules::verdict;
+pub use showing::live_at;
 pub use terms::{is_immediate, is_pegged, key_of, limit_of, quantity_of, row_of, side_of};
 pub use trade::{Fill, Party, Take};
 pub use walking::{floor, may_fill};
-
-#[cfg(test)]
-mod tests;

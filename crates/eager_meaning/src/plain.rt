@@ -10,7 +10,7 @@ use crate::rules::verdict;
 use crate::showing::{row_of_order, view_of};
 use std::alloc::{AllocError, Global};
 use std::marker::Model;
-use venue_words::{Best, Bytes, Command, Config, Event, Kind, NoMemory, Priced, Report};
+use venue_words::{Best, Bytes, Command, Config, Event, Execution, Kind, NoMemory, Priced, Report};
 
 /// The book of a symbol as plain lists.
 #[derive(Drop)]
@@ -90,9 +90,10 @@ impl Plain {
     {
         let rows = both(alloc, &self.buys, &self.sells)?;
         let kind = match order_named(alloc, member, id.as_slice(), &self.orders)? {
-            Some((number, order)) => {
-                Kind::Status(view_of(alloc, &order, row_of_order(number, &rows))?)
-            }
+            Some((number, order)) => Kind::Order {
+                view: view_of(alloc, &order, row_of_order(number, &rows))?,
+                execution: Execution::Status,
+            },
             None => Kind::Unknown {
                 id: Bytes::copy_of(alloc, id.as_slice())?,
                 side,

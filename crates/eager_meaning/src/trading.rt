@@ -8,7 +8,7 @@ use crate::order::Order;
 use crate::showing::view_traded;
 use crate::trade::{Fill, Party};
 use std::alloc::{AllocError, Global};
-use venue_words::Kind;
+use venue_words::{Execution, Kind};
 
 /// A trade is added to an order. A sum that does not fit is answered as want of memory.
 #[tactic(auto, unfolding(crate::specs::Trades::order_after))]
@@ -53,10 +53,12 @@ fn push_trade_notice(
         let view = view_traded(alloc, order, party)?;
         notices.push(Notice {
             member: order.member,
-            kind: Kind::Traded {
+            kind: Kind::Order {
                 view,
-                quantity: fill.quantity,
-                price: fill.price,
+                execution: Execution::Traded {
+                    quantity: fill.quantity,
+                    price: fill.price,
+                },
             },
         })?;
     }

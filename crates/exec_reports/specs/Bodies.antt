@@ -5,7 +5,7 @@ use Rattle.fix_write.specs.Fields.{field}
 use Rattle.fix_write.specs.Moments.{moment_text}
 use Rattle.exec_reports.specs.declared.tags.TheConstants.{ORDER_ID, CL_ORD_ID, ORIG_CL_ORD_ID, EXEC_ID, EXEC_TYPE, ORD_STATUS, ORD_REJ_REASON, SYMBOL, SIDE, ORDER_QTY, ORD_TYPE, PRICE, LAST_QTY, LAST_PX, LEAVES_QTY, CUM_QTY, AVG_PX, TRANSACT_TIME, PEGGED_PRICE, PRIORITY_EVENT, RULE_NUMBER, CXL_REJ_RESPONSE_TO, CXL_REJ_REASON}
 use Rattle.exec_reports.specs.Texts.{order_id, exec_id, price_text, average_text}
-use Rattle.exec_reports.specs.Parts.{first_in, id_in, orig_in, exec_type, state_in, reason_in, side_in, quantity_in, type_in, limit_in, last_quantity_in, last_price_in, leaves_in, cum_in, notional_in, price_in, time_in, rule_in, answer_in, refusal_in, is_refusal}
+use Rattle.exec_reports.specs.Parts.{first_in, id_in, orig_in, exec_type, status_in, reason_in, side_in, quantity_in, type_in, limit_in, last_quantity_in, last_price_in, leaves_in, cum_in, notional_in, price_in, time_in, rule_in, answer_in, refusal_in, is_refusal}
 
 -- a value of one byte
 abbrev pub byte : ℕ → List ℕ
@@ -24,7 +24,7 @@ execution_body report symbol member =
     ++ field_if ORIG_CL_ORD_ID (orig_in report.kind)
     ++ field EXEC_ID (exec_id symbol member report.event report.place)
     ++ field EXEC_TYPE (byte (exec_type report.kind))
-    ++ field ORD_STATUS (byte (state_in report.kind))
+    ++ field ORD_STATUS (byte (status_in report.kind))
     ++ field_if ORD_REJ_REASON (option_map decimal (reason_in report.event report.kind))
     ++ field SYMBOL symbol
     ++ field SIDE (byte (side_in report.kind))
@@ -47,7 +47,7 @@ refusal_body report symbol =
     field ORDER_ID (order_id symbol (first_in report.kind))
     ++ field CL_ORD_ID (id_in report.kind)
     ++ field_if ORIG_CL_ORD_ID (orig_in report.kind)
-    ++ field ORD_STATUS (byte (state_in report.kind))
+    ++ field ORD_STATUS (byte (status_in report.kind))
     ++ field_if CXL_REJ_RESPONSE_TO (option_map byte (answer_in report.kind))
     ++ field_if CXL_REJ_REASON (option_map decimal (refusal_in report.kind))
     ++ field TRANSACT_TIME (moment_text report.moment)

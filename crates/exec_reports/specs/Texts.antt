@@ -1,12 +1,11 @@
 -- The texts of identifiers, prices and amounts.
-use Rattle.std.specs.Prelude.{ℕ, zero, suc, ◌*◌, ◌/◌, ◌%◌, ◌^◌, ◌==◌, if◌then◌else◌, ℤ, pos, negsuc, List, [], ◌∷◌, ◌++◌, codes, decimal}
+use Rattle.std.specs.Prelude.{ℕ, zero, suc, ◌*◌, ◌/◌, ◌%◌, ◌^◌, ◌==◌, if◌then◌else◌, ℤ, pos, negsuc, List, [], ◌∷◌, ◌++◌, codes, decimal, Option, Some, None}
 use Rattle.fix_write.specs.Digits.{digit, four_digits}
 
 -- OrderID: SYMBOL-first, or NONE where no order is meant
-unfoldable pub order_id : List ℕ → ℕ → List ℕ
-order_id symbol first =
-    if first == 0 then codes "NONE"
-    else symbol ++ codes "-" ++ decimal first
+unfoldable pub order_id : List ℕ → Option ℕ → List ℕ
+order_id symbol None = codes "NONE"
+order_id symbol (Some first) = symbol ++ codes "-" ++ decimal first
 
 -- ExecID: SYMBOL-event-place, or 0-MEMBER-place for a message that came to no book
 unfoldable pub exec_id : List ℕ → List ℕ → ℕ → ℕ → List ℕ

@@ -8,8 +8,8 @@ ghost use Rattle.exec_reports.specs.Bodies.{byte, field_if, execution_body, refu
 
 use crate::parts::{
     answer_of, cum_of, first_of, id_of, last_price_of, last_quantity_of, leaves_of, limit_of,
-    notional_of, price_of, reason_of, refusal_of, refuses, rule_of, side_of, state_of, time_of,
-    type_of, type_of_report,
+    notional_of, orig_of, price_of, reason_of, refusal_of, refuses, rule_of, side_of, status_of,
+    time_of, type_of, type_of_report,
 };
 use crate::tags::{
     AVG_PX, CL_ORD_ID, CUM_QTY, CXL_REJ_REASON, CXL_REJ_RESPONSE_TO, EXEC_ID, EXEC_TYPE, LAST_PX,
@@ -18,9 +18,9 @@ use crate::tags::{
 };
 use crate::texts::{push_amount, push_average, push_exec_id, push_order_id, push_price};
 use fix_write::digits::push_number;
-use fix_write::tags::SOH;
 use fix_write::{push_byte_field, push_field, push_moment_field, push_number_field};
 use std::alloc::Global;
+use venue_words::limits::SOH;
 use venue_words::{Kind, NoMemory, Report};
 
 /// Appends a tag and `=`.
@@ -33,7 +33,7 @@ fn push_tag(out: &mut Vec<u8>, tag: u32) -> Result<(), NoMemory>
 }
 
 #[tactic(auto, unfolding(fix_write::specs::Fields::field))]
-fn push_order_id_field(out: &mut Vec<u8>, symbol: &[u8], first: u32) -> Result<(), NoMemory>
+fn push_order_id_field(out: &mut Vec<u8>, symbol: &[u8], first: Option<u32>) -> Result<(), NoMemory>
     ensures { OnOk result (out.new.items ≡ out.old.items ++ field ORDER_ID (order_id symbol.now first)) }
 {
     push_tag(out, ORDER_ID)?;
@@ -140,30 +140,12 @@ fn push_price_if(out: &mut Vec<u8>, tag: u32, units: Option<u32>) -> Result<(), 
     }
 }
 
-#[tactic(auto, unfolding(crate::specs::Parts::orig_in))]
 fn push_orig(out: &mut Vec<u8>, kind: &Kind) -> Result<(), NoMemory>
     ensures { OnOk result (out.new.items ≡ out.old.items ++ field_if ORIG_CL_ORD_ID (orig_in kind.now)) }
 {
-    match kind {
-        Kind::Canceled {
-            orig: Some(orig),
-            ..
-        } => push_field(out, ORIG_CL_ORD_ID, orig.as_slice()),
-        Kind::Replaced { orig, .. } | Kind::Refused { orig, .. } => {
-            push_field(out, ORIG_CL_ORD_ID, orig.as_slice())
-        }
-        _ => Ok(()),
-    }
-}
-
-fn orig_length(kind: &Kind) -> usize {
-    match kind {
-        Kind::Canceled {
-            orig: Some(orig),
-            ..
-        } => orig.as_slice().len(),
-        Kind::Replaced { orig, .. } | Kind::Refused { orig, .. } => orig.as_slice().len(),
-        _ => 0,
+    match orig_of(kind) {
+        Some(orig) => push_field(out, ORIG_CL_ORD_ID, orig.as_slice()),
+        None => Ok(()),
     }
 }
 
@@ -172,10 +154,7 @@ fn push_quantity(out: &mut Vec<u8>, kind: &Kind) -> Result<(), NoMemory>
     ensures { OnOk result (out.new.items ≡ out.old.items ++ field_if ORDER_QTY (quantity_in kind.now)) }
 {
     match kind {
-        Kind::Accepted(view) | Kind::Status(view) => { push_count(out, ORDER_QTY, view.quantity) }
-        Kind::Traded { view, .. } | Kind::Canceled { view, .. } | Kind::Replaced { view, .. } => {
-            push_count(out, ORDER_QTY, view.quantity)
-        }
+        Kind::Order { view, .. } => push_count(out, ORDER_QTY, view.quantity),
         Kind::Rejected { quantity, .. } => push_amount_field(out, ORDER_QTY, *quantity),
         Kind::Unknown { .. } | Kind::Refused { .. } => Ok(()),
     }
@@ -185,9 +164,8 @@ fn push_quantity(out: &mut Vec<u8>, kind: &Kind) -> Result<(), NoMemory>
 fn room(report: &Report, symbol: &[u8], member: &[u8]) -> usize {
     // The symbol stands in up to three fields, and the other fields have at most 192 bytes with their tags.
     let names = symbol.len().saturating_mul(3).saturating_add(member.len());
-    let ids = id_of(&report.kind)
-        .len()
-        .saturating_add(orig_length(&report.kind));
+    let orig = orig_of(&report.kind).map_or(0, |orig| orig.as_slice().len());
+    let ids = id_of(&report.kind).len().saturating_add(orig);
     names.saturating_add(ids).saturating_add(192)
 }
 
@@ -208,7 +186,7 @@ fn execution_report(
     push_orig(out, kind)?;
     push_exec_id_field(out, report, symbol, member)?;
     push_byte_field(out, EXEC_TYPE, type_of_report(kind))?;
-    push_byte_field(out, ORD_STATUS, state_of(kind))?;
+    push_byte_field(out, ORD_STATUS, status_of(kind))?;
     push_code_if(out, ORD_REJ_REASON, reason_of(report.event, kind))?;
     push_field(out, SYMBOL, symbol)?;
     push_byte_field(out, SIDE, side_of(kind))?;
@@ -237,7 +215,7 @@ fn cancel_reject(alloc: Global, report: &Report, symbol: &[u8]) -> Result<Vec<u8
     push_order_id_field(out, symbol, first_of(kind))?;
     push_field(out, CL_ORD_ID, id_of(kind))?;
     push_orig(out, kind)?;
-    push_byte_field(out, ORD_STATUS, state_of(kind))?;
+    push_byte_field(out, ORD_STATUS, status_of(kind))?;
     push_byte_if(out, CXL_REJ_RESPONSE_TO, answer_of(kind))?;
     push_code_if(out, CXL_REJ_REASON, refusal_of(kind))?;
     push_transact_time(out, report)?;

@@ -2,6 +2,7 @@
 #![tactic(auto)]
 
 pub mod bodies;
+pub mod codes;
 pub mod parts;
 pub mod tags;
 pub mod texts;

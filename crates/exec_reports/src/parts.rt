@@ -1,9 +1,10 @@
 //! What a report says, by its kind.
 ghost use Rattle.std.specs.Prelude.{◌≡◌};
 ghost use Rattle.std.specs.Option.{option_copied};
-ghost use Rattle.exec_reports.specs.Parts.{view_in, standing_in, first_in, id_in, exec_type, state_in, reject_reason, refuse_reason, reason_in, side_code, side_in, type_code, type_in, limit_in, last_quantity_in, last_price_in, leaves_in, cum_in, notional_in, price_in, time_in, rule_in, answer_in, refusal_in, is_refusal};
+ghost use Rattle.exec_reports.specs.Parts.{view_in, standing_in, first_in, id_in, orig_in, exec_type, status_in, reason_in, side_in, type_code, type_in, limit_in, last_quantity_in, last_price_in, leaves_in, cum_in, notional_in, price_in, time_in, rule_in, answer_in, refusal_in, is_refusal};
 
-use venue_words::{Kind, Rule, Side, View};
+use crate::codes::{refuse_reason, reject_reason, request_code, side_code, status_code};
+use venue_words::{Bytes, Execution, Kind, LiveOrder, View};
 
 /// The order that a report shows.
 #[tactic(auto, unfolding(crate::specs::Parts::view_in))]
@@ -11,37 +12,34 @@ pub fn view_of(kind: &Kind) -> Option<&View>
     ensures { option_copied result ≡ view_in kind.now }
 {
     match kind {
-        Kind::Accepted(view) | Kind::Status(view) => Some(view),
-        Kind::Traded { view, .. } | Kind::Canceled { view, .. } | Kind::Replaced { view, .. } => {
-            Some(view)
-        }
+        Kind::Order { view, .. } => Some(view),
         Kind::Rejected { .. } | Kind::Unknown { .. } | Kind::Refused { .. } => None,
     }
 }
 
-/// The order whose price and time a report shows too.
+/// What a live order has, where a report shows its price and time.
 #[tactic(auto, unfolding(crate::specs::Parts::standing_in))]
-pub fn standing_of(kind: &Kind) -> Option<&View>
-    ensures { option_copied result ≡ standing_in kind.now }
+pub fn standing_of(kind: &Kind) -> Option<LiveOrder>
+    ensures { result ≡ standing_in kind.now }
 {
     match kind {
-        Kind::Accepted(view) | Kind::Status(view) | Kind::Replaced { view, .. } => Some(view),
+        Kind::Order {
+            view,
+            execution: Execution::Accepted | Execution::Replaced { .. } | Execution::Status,
+        } => view.live,
         _ => None,
     }
 }
 
-/// The event of the New of the order that is meant, or 0.
+/// The event of the New of the order that is meant.
 #[tactic(auto, unfolding(crate::specs::Parts::first_in))]
-pub fn first_of(kind: &Kind) -> u32
+pub fn first_of(kind: &Kind) -> Option<u32>
     ensures { result ≡ first_in kind.now }
 {
     match kind {
-        Kind::Accepted(view) | Kind::Status(view) => view.first,
-        Kind::Traded { view, .. } | Kind::Canceled { view, .. } | Kind::Replaced { view, .. } => {
-            view.first
-        }
-        Kind::Refused { first, .. } => *first,
-        Kind::Rejected { .. } | Kind::Unknown { .. } => 0,
+        Kind::Order { view, .. } => Some(view.first),
+        Kind::Refused { order, .. } => order.map(|named| named.first),
+        Kind::Rejected { .. } | Kind::Unknown { .. } => None,
     }
 }
 
@@ -51,13 +49,29 @@ pub fn id_of(kind: &Kind) -> &[u8]
     ensures { result.now ≡ id_in kind.now }
 {
     match kind {
-        Kind::Accepted(view) | Kind::Status(view) => view.id.as_slice(),
-        Kind::Traded { view, .. } | Kind::Canceled { view, .. } | Kind::Replaced { view, .. } => {
-            view.id.as_slice()
-        }
+        Kind::Order { view, .. } => view.id.as_slice(),
         Kind::Rejected { id, .. } | Kind::Unknown { id, .. } | Kind::Refused { id, .. } => {
             id.as_slice()
         }
+    }
+}
+
+/// OrigClOrdID(41).
+#[tactic(auto, unfolding(crate::specs::Parts::orig_in))]
+pub fn orig_of(kind: &Kind) -> Option<&Bytes>
+    ensures { option_copied result ≡ orig_in kind.now }
+{
+    match kind {
+        Kind::Order {
+            execution: Execution::Canceled { orig },
+            ..
+        } => orig.as_ref(),
+        Kind::Order {
+            execution: Execution::Replaced { orig },
+            ..
+        } => Some(orig),
+        Kind::Refused { orig, .. } => Some(orig),
+        _ => None,
     }
 }
 
@@ -67,78 +81,30 @@ pub fn type_of_report(kind: &Kind) -> u8
     ensures { result ≡ exec_type kind.now }
 {
     match kind {
-        Kind::Accepted(_) => b'0',
-        Kind::Traded { .. } => b'F',
-        Kind::Canceled { .. } => b'4',
-        Kind::Replaced { .. } => b'5',
+        Kind::Order { execution, .. } => match execution {
+            Execution::Accepted => b'0',
+            Execution::Traded { .. } => b'F',
+            Execution::Canceled { .. } => b'4',
+            Execution::Replaced { .. } => b'5',
+            Execution::Status => b'I',
+        },
         Kind::Rejected { .. } | Kind::Refused { .. } => b'8',
-        Kind::Status(_) | Kind::Unknown { .. } => b'I',
+        Kind::Unknown { .. } => b'I',
     }
 }
 
 /// OrdStatus(39).
-#[tactic(auto, unfolding(crate::specs::Parts::state_in))]
-pub fn state_of(kind: &Kind) -> u8
-    ensures { result ≡ state_in kind.now }
+#[tactic(auto, unfolding(crate::specs::Parts::status_in))]
+pub fn status_of(kind: &Kind) -> u8
+    ensures { result ≡ status_in kind.now }
 {
     match kind {
-        Kind::Accepted(view) | Kind::Status(view) => view.state,
-        Kind::Traded { view, .. } | Kind::Canceled { view, .. } | Kind::Replaced { view, .. } => {
-            view.state
-        }
-        Kind::Refused { state, .. } => *state,
-        Kind::Rejected { .. } | Kind::Unknown { .. } => b'8',
-    }
-}
-
-#[tactic(auto, unfolding(crate::specs::Parts::side_code))]
-fn code_of(side: Side) -> u8
-    ensures { result ≡ side_code side }
-{
-    match side {
-        Side::Buy => b'1',
-        Side::Sell => b'2',
-    }
-}
-
-/// Side(54). A refused cancel or replace shows none.
-#[tactic(auto, unfolding(crate::specs::Parts::side_in))]
-pub fn side_of(kind: &Kind) -> u8
-    ensures { result ≡ side_in kind.now }
-{
-    match kind {
-        Kind::Accepted(view) | Kind::Status(view) => code_of(view.side),
-        Kind::Traded { view, .. } | Kind::Canceled { view, .. } | Kind::Replaced { view, .. } => {
-            code_of(view.side)
-        }
-        Kind::Rejected { side, .. } | Kind::Unknown { side, .. } => *side,
-        Kind::Refused { .. } => 0,
-    }
-}
-
-/// Why a New that broke a rule is rejected.
-#[tactic(auto, unfolding(crate::specs::Parts::reject_reason))]
-fn reason_to_reject(rule: Rule) -> u8
-    ensures { result ≡ reject_reason rule }
-{
-    match rule.0 {
-        1 => 1,
-        2 => 6,
-        3 | 14 => 13,
-        7 | 8 | 12 => 99,
-        _ => 11,
-    }
-}
-
-/// Why a cancel or a replace that broke a rule is refused.
-#[tactic(auto, unfolding(crate::specs::Parts::refuse_reason))]
-fn reason_to_refuse(rule: Rule) -> u8
-    ensures { result ≡ refuse_reason rule }
-{
-    match rule.0 {
-        1 | 16 => 1,
-        2 => 6,
-        _ => 99,
+        Kind::Order { view, .. } => status_code(view.status()),
+        Kind::Refused {
+            order: Some(named),
+            ..
+        } => status_code(named.status),
+        _ => b'8',
     }
 }
 
@@ -148,9 +114,21 @@ pub fn reason_of(event: u32, kind: &Kind) -> Option<u8>
     ensures { result ≡ reason_in event kind.now }
 {
     match kind {
-        Kind::Rejected { rule, .. } => Some(reason_to_reject(*rule)),
+        Kind::Rejected { rule, .. } => Some(reject_reason(*rule)),
         Kind::Unknown { .. } => Some(if event == 0 { 1 } else { 5 }),
         _ => None,
+    }
+}
+
+/// Side(54). A refused cancel or replace shows none.
+#[tactic(auto, unfolding(crate::specs::Parts::side_in))]
+pub fn side_of(kind: &Kind) -> u8
+    ensures { result ≡ side_in kind.now }
+{
+    match kind {
+        Kind::Order { view, .. } => side_code(view.side),
+        Kind::Rejected { side, .. } | Kind::Unknown { side, .. } => *side,
+        Kind::Refused { .. } => 0,
     }
 }
 
@@ -158,20 +136,14 @@ pub fn reason_of(event: u32, kind: &Kind) -> Option<u8>
 pub fn type_of(kind: &Kind) -> Option<u8>
     ensures { result ≡ type_in kind.now }
 {
-    match view_of(kind) {
-        Some(view) => Some(if view.pegged { b'P' } else { b'2' }),
-        None => None,
-    }
+    view_of(kind).map(|view| if view.pegged { b'P' } else { b'2' })
 }
 
 /// Price(44), in units of 0.005.
 pub fn limit_of(kind: &Kind) -> Option<u32>
     ensures { result ≡ limit_in kind.now }
 {
-    match view_of(kind) {
-        Some(view) => view.limit,
-        None => None,
-    }
+    view_of(kind).and_then(|view| view.limit)
 }
 
 /// LastQty(32).
@@ -180,7 +152,10 @@ pub fn last_quantity_of(kind: &Kind) -> Option<u32>
     ensures { result ≡ last_quantity_in kind.now }
 {
     match kind {
-        Kind::Traded { quantity, .. } => Some(*quantity),
+        Kind::Order {
+            execution: Execution::Traded { quantity, .. },
+            ..
+        } => Some(*quantity),
         _ => None,
     }
 }
@@ -191,7 +166,10 @@ pub fn last_price_of(kind: &Kind) -> Option<u32>
     ensures { result ≡ last_price_in kind.now }
 {
     match kind {
-        Kind::Traded { price, .. } => Some(*price),
+        Kind::Order {
+            execution: Execution::Traded { price, .. },
+            ..
+        } => Some(*price),
         _ => None,
     }
 }
@@ -200,50 +178,37 @@ pub fn last_price_of(kind: &Kind) -> Option<u32>
 pub fn leaves_of(kind: &Kind) -> u32
     ensures { result ≡ leaves_in kind.now }
 {
-    match view_of(kind) {
-        Some(view) => view.leaves,
-        None => 0,
-    }
+    view_of(kind)
+        .and_then(|view| view.live)
+        .map_or(0, |live| live.leaves)
 }
 
 /// CumQty(14).
 pub fn cum_of(kind: &Kind) -> u32
     ensures { result ≡ cum_in kind.now }
 {
-    match view_of(kind) {
-        Some(view) => view.cum,
-        None => 0,
-    }
+    view_of(kind).map_or(0, |view| view.cum)
 }
 
 /// The sum of price times quantity over the order's trades, in units of 0.005.
 pub fn notional_of(kind: &Kind) -> u64
     ensures { result ≡ notional_in kind.now }
 {
-    match view_of(kind) {
-        Some(view) => view.notional,
-        None => 0,
-    }
+    view_of(kind).map_or(0, |view| view.notional)
 }
 
 /// PeggedPrice(839), in units of 0.005.
 pub fn price_of(kind: &Kind) -> Option<u32>
     ensures { result ≡ price_in kind.now }
 {
-    match standing_of(kind) {
-        Some(view) => view.price,
-        None => None,
-    }
+    standing_of(kind).and_then(|live| live.price)
 }
 
 /// The priority event(9701).
 pub fn time_of(kind: &Kind) -> Option<u32>
     ensures { result ≡ time_in kind.now }
 {
-    match standing_of(kind) {
-        Some(view) if view.state == b'0' || view.state == b'1' => Some(view.time),
-        _ => None,
-    }
+    standing_of(kind).map(|live| live.time)
 }
 
 /// The rule's number(9702).
@@ -263,7 +228,7 @@ pub fn answer_of(kind: &Kind) -> Option<u8>
     ensures { result ≡ answer_in kind.now }
 {
     match kind {
-        Kind::Refused { answer, .. } => Some(*answer),
+        Kind::Refused { request, .. } => Some(request_code(*request)),
         _ => None,
     }
 }
@@ -274,7 +239,7 @@ pub fn refusal_of(kind: &Kind) -> Option<u8>
     ensures { result ≡ refusal_in kind.now }
 {
     match kind {
-        Kind::Refused { rule, .. } => Some(reason_to_refuse(*rule)),
+        Kind::Refused { rule, .. } => Some(refuse_reason(*rule)),
         _ => None,
     }
 }

@@ -2,7 +2,10 @@
 use crate::{body, kind};
 use std::alloc::Global;
 use std::test::Fail;
-use venue_words::{Bytes, Kind, NoMemory, Report, Rule, Side, View};
+use venue_words::{
+    Bytes, Execution, Kind, LiveOrder, NamedOrder, NoMemory, OrderStatus, RefusedRequest, Report,
+    Rule, Side, View,
+};
 
 /// 2024-01-02 14:30:00 UTC.
 const MOMENT: i64 = 1_704_205_800_000;
@@ -22,10 +25,11 @@ fn order(alloc: Global) -> Result<View, NoMemory> {
         limit: None,
         cum: 0,
         notional: 0,
-        leaves: 100,
-        state: b'0',
-        price: Some(2001),
-        time: 2,
+        live: Some(LiveOrder {
+            leaves: 100,
+            price: Some(2001),
+            time: 2,
+        }),
     })
 }
 
@@ -50,7 +54,15 @@ fn shown(alloc: Global, event: u32, place: u32, kind: Kind) -> Result<Vec<u8>, N
 
 #[test]
 fn an_accepted_order_shows_its_price_and_time(rt: HostRuntime) -> Result<(), Fail> {
-    let text = shown(rt.alloc(), 2, 1, Kind::Accepted(order(rt.alloc())?))?;
+    let text = shown(
+        rt.alloc(),
+        2,
+        1,
+        Kind::Order {
+            view: order(rt.alloc())?,
+            execution: Execution::Accepted,
+        },
+    )?;
     assert_eq!(rt;
         text.as_slice(),
         b"37=X-2|11=a1|17=X-2-1|150=0|39=0|55=X|54=1|38=100|40=P|151=100|14=0|6=0.0000|60=20240102-14:30:00.000|839=10.0050|9701=2|".as_slice()
@@ -63,13 +75,12 @@ fn a_trade_shows_the_fill_and_no_price_of_its_order(rt: HostRuntime) -> Result<(
     let mut view = order(rt.alloc())?;
     view.cum = 100;
     view.notional = 200_100;
-    view.leaves = 0;
-    view.state = b'2';
-    let kind = Kind::Traded {
-        view,
+    view.live = None;
+    let execution = Execution::Traded {
         quantity: 100,
         price: 2001,
     };
+    let kind = Kind::Order { view, execution };
     let text = shown(rt.alloc(), 3, 3, kind)?;
     assert_eq!(rt;
         text.as_slice(),
@@ -81,11 +92,9 @@ fn a_trade_shows_the_fill_and_no_price_of_its_order(rt: HostRuntime) -> Result<(
 #[test]
 fn a_canceled_order_names_the_cancel_if_there_was_one(rt: HostRuntime) -> Result<(), Fail> {
     let mut view = order(rt.alloc())?;
-    view.leaves = 0;
-    view.state = b'4';
-    view.price = None;
-    view.time = 0;
-    let text = shown(rt.alloc(), 2, 2, Kind::Canceled { view, orig: None })?;
+    view.live = None;
+    let execution = Execution::Canceled { orig: None };
+    let text = shown(rt.alloc(), 2, 2, Kind::Order { view, execution })?;
     assert_eq!(rt;
         text.as_slice(),
         b"37=X-2|11=a1|17=X-2-2|150=4|39=4|55=X|54=1|38=100|40=P|151=0|14=0|6=0.0000|60=20240102-14:30:00.000|".as_slice()
@@ -94,12 +103,11 @@ fn a_canceled_order_names_the_cancel_if_there_was_one(rt: HostRuntime) -> Result
     let mut view = order(rt.alloc())?;
     view.id = id(rt.alloc(), b"a3")?;
     view.side = Side::Sell;
-    view.leaves = 0;
-    view.state = b'4';
-    view.price = None;
-    view.time = 0;
-    let orig = Some(id(rt.alloc(), b"a1")?);
-    let text = shown(rt.alloc(), 5, 1, Kind::Canceled { view, orig })?;
+    view.live = None;
+    let execution = Execution::Canceled {
+        orig: Some(id(rt.alloc(), b"a1")?),
+    };
+    let text = shown(rt.alloc(), 5, 1, Kind::Order { view, execution })?;
     assert_eq!(rt;
         text.as_slice(),
         b"37=X-2|11=a3|41=a1|17=X-5-1|150=4|39=4|55=X|54=2|38=100|40=P|151=0|14=0|6=0.0000|60=20240102-14:30:00.000|".as_slice()
@@ -117,12 +125,15 @@ fn a_replaced_order_has_the_new_identifier_and_names_the_old_one(
     view.limit = Some(2400);
     view.cum = 100;
     view.notional = 200_100;
-    view.leaves = 150;
-    view.state = b'1';
-    view.price = None;
-    view.time = 6;
-    let orig = id(rt.alloc(), b"a2")?;
-    let text = shown(rt.alloc(), 6, 1, Kind::Replaced { view, orig })?;
+    view.live = Some(LiveOrder {
+        leaves: 150,
+        price: None,
+        time: 6,
+    });
+    let execution = Execution::Replaced {
+        orig: id(rt.alloc(), b"a2")?,
+    };
+    let text = shown(rt.alloc(), 6, 1, Kind::Order { view, execution })?;
     assert_eq!(rt;
         text.as_slice(),
         b"37=X-2|11=a3|41=a2|17=X-6-1|150=5|39=1|55=X|54=1|38=250|40=P|44=12.0000|151=150|14=100|6=10.0050|60=20240102-14:30:00.000|9701=6|".as_slice()
@@ -176,11 +187,9 @@ fn the_average_price_is_cut_off_behind_four_decimals(rt: HostRuntime) -> Result<
     view.limit = Some(2002);
     view.cum = 300;
     view.notional = 600_100;
-    view.leaves = 0;
-    view.state = b'2';
-    view.price = None;
-    view.time = 0;
-    let text = shown(rt.alloc(), 5, 1, Kind::Status(view))?;
+    view.live = None;
+    let execution = Execution::Status;
+    let text = shown(rt.alloc(), 5, 1, Kind::Order { view, execution })?;
     assert_eq!(rt;
         text.as_slice(),
         b"37=X-2|11=a1|17=X-5-1|150=I|39=2|55=X|54=1|38=300|40=2|44=10.0100|151=0|14=300|6=10.0016|60=20240102-14:30:00.000|".as_slice()
@@ -207,9 +216,8 @@ fn a_refused_cancel_or_replace_is_a_cancel_reject(rt: HostRuntime) -> Result<(),
     let refused = Kind::Refused {
         id: id(rt.alloc(), b"a1")?,
         orig: id(rt.alloc(), b"zz")?,
-        first: 0,
-        state: b'8',
-        answer: b'1',
+        order: None,
+        request: RefusedRequest::Cancel,
         rule: Rule(16),
     };
     let text = shown(rt.alloc(), 1, 1, refused)?;
@@ -221,9 +229,11 @@ fn a_refused_cancel_or_replace_is_a_cancel_reject(rt: HostRuntime) -> Result<(),
     let refused = Kind::Refused {
         id: id(rt.alloc(), b"a4")?,
         orig: id(rt.alloc(), b"a3")?,
-        first: 2,
-        state: b'1',
-        answer: b'2',
+        order: Some(NamedOrder {
+            first: 2,
+            status: OrderStatus::PartiallyFilled,
+        }),
+        request: RefusedRequest::Replace,
         rule: Rule(18),
     };
     let text = shown(rt.alloc(), 8, 1, refused)?;
@@ -267,7 +277,10 @@ fn only_a_refusal_is_a_cancel_reject(rt: HostRuntime) -> Result<(), Fail> {
         place: 1,
         member: 0,
         moment: MOMENT,
-        kind: Kind::Status(order(rt.alloc())?),
+        kind: Kind::Order {
+            view: order(rt.alloc())?,
+            execution: Execution::Status,
+        },
     };
     assert_eq!(rt; kind(&status), b'8');
     let refused = Report {
@@ -278,9 +291,8 @@ fn only_a_refusal_is_a_cancel_reject(rt: HostRuntime) -> Result<(), Fail> {
         kind: Kind::Refused {
             id: id(rt.alloc(), b"a2")?,
             orig: id(rt.alloc(), b"a1")?,
-            first: 0,
-            state: b'8',
-            answer: b'1',
+            order: None,
+            request: RefusedRequest::Cancel,
             rule: Rule(16),
         },
     };

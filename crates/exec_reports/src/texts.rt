@@ -6,18 +6,22 @@ use fix_write::digits::{push_four, push_number};
 use itoa::Buffer;
 use venue_words::NoMemory;
 
-/// Appends OrderID(37): the symbol and the number of the event of the order's New; `NONE` where that is 0.
+/// Appends OrderID(37): the symbol and the number of the event of the order's New; `NONE` where no order is meant.
 #[tactic(auto, unfolding(crate::specs::Texts::order_id))]
-pub fn push_order_id(out: &mut Vec<u8>, symbol: &[u8], first: u32) -> Result<(), NoMemory>
+pub fn push_order_id(out: &mut Vec<u8>, symbol: &[u8], first: Option<u32>) -> Result<(), NoMemory>
     ensures { OnOk result (out.new.items ≡ out.old.items ++ order_id symbol.now first) }
 {
-    if first == 0 {
-        out.extend_from_slice(b"NONE")?;
-        return Ok(());
+    match first {
+        None => {
+            out.extend_from_slice(b"NONE")?;
+            Ok(())
+        }
+        Some(first) => {
+            out.extend_from_slice(symbol)?;
+            out.push(b'-')?;
+            push_number(out, u64::from(first))
+        }
     }
-    out.extend_from_slice(symbol)?;
-    out.push(b'-')?;
-    push_number(out, u64::from(first))
 }
 
 /// Appends ExecID(17): the symbol, the event and the report's place; for a message that came to no book, which

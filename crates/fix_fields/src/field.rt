@@ -4,9 +4,6 @@ ghost use Rattle.std.specs.Prelude.{◌≡◌};
 use std::alloc::{AllocError, AllocFailed};
 use venue_words::Bytes;
 
-/// The most bytes of a frame that is read, BeginString and CheckSum included.
-pub const LONGEST_FRAME: usize = 8192;
-
 /// A field of a message: its tag, from 1 to 99,999, and the bytes of its value.
 #[derive(Debug, Drop)]
 pub struct Field {

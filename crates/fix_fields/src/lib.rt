@@ -6,7 +6,7 @@ pub mod forms;
 pub mod moments;
 pub mod splitting;
 
-pub use field::{Field, FieldFault, LONGEST_FRAME};
+pub use field::{Field, FieldFault};
 pub use forms::{amount, number};
 pub use moments::{FIRST_MOMENT, LAST_MOMENT, moment};
 pub use splitting::fields;

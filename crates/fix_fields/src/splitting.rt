@@ -5,13 +5,11 @@ ghost use Rattle.fix_fields.specs.Fields.{is_length, data_behind, plain_cut, dat
 ghost use Rattle.fix_fields.specs.Spelling.{AreFields, spellings};
 ghost use Rattle.fix_fields.specs.declared.field.Field.{Field};
 
-use crate::field::{Field, FieldFault, LONGEST_FRAME};
+use crate::field::{Field, FieldFault};
 use crate::forms::{number, numeral, place_of};
 use std::alloc::Global;
 use venue_words::Bytes;
-
-/// What ends a field.
-const SOH: u8 = 1;
+use venue_words::limits::{MAX_FRAME_BYTES, SOH};
 
 /// RawDataLength and EncodedTextLen, which give the length of the field behind them.
 const RAW_DATA_LENGTH: u32 = 95;
@@ -111,7 +109,7 @@ fn next_field(
 
 /// The fields, one by one from the front.
 fn split_fields(alloc: Global, bytes: &[u8]) -> Result<Vec<Field>, FieldFault>
-    requires { length bytes.now ≤ LONGEST_FRAME }
+    requires { length bytes.now ≤ MAX_FRAME_BYTES }
     ensures { SplitsAs result (split bytes.now) }
 {
     let mut found = Vec::new(alloc);
@@ -130,7 +128,7 @@ fn split_fields(alloc: Global, bytes: &[u8]) -> Result<Vec<Field>, FieldFault>
 /// one behind the other. A value holds no SOH, except in RawData (96) and EncodedText (355), which have as many bytes
 /// as the field before them says (95, 354). An error is the first fault from the left.
 pub fn fields(alloc: Global, bytes: &[u8]) -> Result<Vec<Field>, FieldFault>
-    requires { length bytes.now ≤ LONGEST_FRAME }
+    requires { length bytes.now ≤ MAX_FRAME_BYTES }
 
     // What is found is fields, and spells the bytes.
     ensures found { IfOk result (λ v. AreFields None v.items × (bytes.now ≡ spellings v.items)) }

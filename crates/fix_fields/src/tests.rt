@@ -1,8 +1,9 @@
 //! Worked examples: each form at and beyond its edges, and each fault with its place.
-use crate::{Field, FieldFault, LONGEST_FRAME, amount, fields, moment, number};
+use crate::{Field, FieldFault, amount, fields, moment, number};
 use std::alloc::{AllocError, Global};
 use std::process::Abort;
 use std::test::Fail;
+use venue_words::limits::MAX_FRAME_BYTES;
 
 #[test]
 fn a_number_has_one_to_nine_digits(rt: HostRuntime) {
@@ -114,7 +115,7 @@ fn outline(alloc: Global, fields: &[Field]) -> Result<String, AllocError> {
 
 /// The fields of bytes that are few enough to be split.
 fn split(rt: &impl Abort, alloc: Global, bytes: &[u8]) -> Result<Vec<Field>, FieldFault> {
-    assert!(rt; bytes.len() <= LONGEST_FRAME);
+    assert!(rt; bytes.len() <= MAX_FRAME_BYTES);
     fields(alloc, bytes)
 }
 

@@ -7,9 +7,9 @@ use Rattle.std.specs.Str.Parse.{digits_value, digits_value_after}
 use Rattle.std.proofs.lemmas.Bool.{and_parts, and_from, eqb-true, ltb-true, ltb-false, not-false}
 use Rattle.std.proofs.lemmas.List.{take_at, drop_at, drop-drop, take_all, take-append-drop, length-take-le, get_or-append-add, get_or_append_left, take_more, take-append-le}
 use Rattle.std.proofs.Math.Seq.{take-append-add}
+use Rattle.venue_words.specs.declared.limits.TheConstants.{MAX_FRAME_BYTES}
 use lib.Pointwise.{bytes_decides}
 use Rattle.fix_fields.specs.Forms.{numeral}
-use Rattle.fix_fields.specs.declared.field.TheConstants.{LONGEST_FRAME}
 use Rattle.fix_write.specs.Digits.{three_digits}
 use Rattle.fix_frames.specs.declared.place.Place.TheVariants.{Passed, Unfinished, Long, Whole}
 use Rattle.fix_frames.specs.declared.place.BodyLength.{BodyLength}
@@ -204,14 +204,14 @@ declared_frame bytes d v e opens enough h =
     let counts : numeral l.ds ≡ Some (length content) = l.counts ∙ ap (λ (m : ℕ). Some m) (sym len) in
     subst IsFrame (sym frame) (found_frame l.ds content trailer (omega (arith, l.some, l.many)) (omega (arith, l.few, l.many)) counts seven test)
 
-judged_found : (found : BodyLength) (bytes : List ℕ) (n : ℕ) → body_length (drop 11 bytes) ≡ found → begins bytes ≡ true → judged found bytes ≡ Whole n → IsFrame (take n bytes) × (n ≤ LONGEST_FRAME)
+judged_found : (found : BodyLength) (bytes : List ℕ) (n : ℕ) → body_length (drop 11 bytes) ≡ found → begins bytes ≡ true → judged found bytes ≡ Whole n → IsFrame (take n bytes) × (n ≤ MAX_FRAME_BYTES)
 unfolding judged
 judged_found Bad bytes n e opens h = absurd (cc)
 judged_found Partial bytes n e opens h = absurd (cc)
 judged_found (Declared d v) bytes n e opens h =
     let size = 21 + d + v in
     let last = cond (is_frame (14 + d) v (take size bytes)) (Whole size) Passed in
-    elim (chosen (ltb LONGEST_FRAME size) Long (cond (ltb (length bytes) size) Unfinished last) (Whole n) h) [
+    elim (chosen (ltb MAX_FRAME_BYTES size) Long (cond (ltb (length bytes) size) Unfinished last) (Whole n) h) [
       | inl p ↦ absurd (let x : Long ≡ Whole n = p.1 in cc)
       | inr p ↦ elim (chosen (ltb (length bytes) size) Unfinished last (Whole n) p.1) [
         | inl q ↦ absurd (let x : Unfinished ≡ Whole n = q.1 in cc)
@@ -220,14 +220,14 @@ judged_found (Declared d v) bytes n e opens h =
               let x : Whole size ≡ Whole n = s.1 in
               let same : size ≡ n = cc in
               let frame = declared_frame bytes d v e opens (ltb-false (length bytes) size q.0) s.0 in
-              (subst (λ (m : ℕ). IsFrame (take m bytes)) same frame, omega (arith, ltb-false LONGEST_FRAME size p.0))
+              (subst (λ (m : ℕ). IsFrame (take m bytes)) same frame, omega (arith, ltb-false MAX_FRAME_BYTES size p.0))
           | inr s ↦ absurd (let x : Passed ≡ Whole n = s.1 in cc)
         ]
       ]
     ]
 
 -- what is found at the front of bytes is a frame within the limit
-pub whole_found : (bytes : List ℕ) (n : ℕ) → place_at bytes ≡ Whole n → IsFrame (take n bytes) × (n ≤ LONGEST_FRAME)
+pub whole_found : (bytes : List ℕ) (n : ℕ) → place_at bytes ≡ Whole n → IsFrame (take n bytes) × (n ≤ MAX_FRAME_BYTES)
 unfolding place_at
 whole_found bytes n h =
     elim (chosen (begins bytes) (judged (body_length (drop 11 bytes)) bytes) Passed (Whole n) h) [

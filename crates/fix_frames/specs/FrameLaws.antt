@@ -7,10 +7,10 @@ use Rattle.std.specs.Str.Parse.{digits_value, digits_value_after}
 use Rattle.std.proofs.lemmas.Bool.{and_parts}
 use Rattle.std.proofs.lemmas.Bool.Decides.{nat_tests}
 use Rattle.std.proofs.lemmas.List.{take_at, drop_at, drop-drop, take_all, get_or_at}
+use Rattle.venue_words.specs.declared.limits.TheConstants.{MAX_FRAME_BYTES}
 use lib.Pointwise.{bytes_decides}
 use Rattle.fix_fields.specs.Forms.{numeral}
 use Rattle.fix_fields.specs.Marks.{place_found}
-use Rattle.fix_fields.specs.declared.field.TheConstants.{LONGEST_FRAME}
 use Rattle.fix_write.specs.Digits.{three_digits}
 use Rattle.fix_frames.specs.declared.place.Place.TheVariants.{Whole}
 use Rattle.fix_frames.specs.declared.place.BodyLength.TheVariants.{Declared}
@@ -102,19 +102,19 @@ is_frame-spelled frame f =
     let sum_there : has_check_sum (k + length c) frame ≡ true = has_check_sum-spelled (o ++ c) frame (k + length c) f.bytes (length-append o c ∙ ap (λ (n : ℕ). n + length c) (length-header f.digits)) in
     rw (opens, ends', sum_there) refl
 
-judged-spelled : (frame : List ℕ) (f : IsFrame frame) → length frame ≤ LONGEST_FRAME → judged (Declared (length f.digits) (length f.content)) frame ≡ Whole (length frame)
+judged-spelled : (frame : List ℕ) (f : IsFrame frame) → length frame ≤ MAX_FRAME_BYTES → judged (Declared (length f.digits) (length f.content)) frame ≡ Whole (length frame)
 unfolding judged
 judged-spelled frame f fits =
     let size = 21 + length f.digits + length f.content in
     let long : length frame ≡ size = length-frame frame f in
-    let small : ltb LONGEST_FRAME size ≡ false = grind (arith, nat_tests) in
+    let small : ltb MAX_FRAME_BYTES size ≡ false = grind (arith, nat_tests) in
     let there : ltb (length frame) size ≡ false = grind (arith, nat_tests) in
     let all : take size frame ≡ frame = take_all size frame (omega arith) in
     let whole : is_frame (14 + length f.digits) (length f.content) frame ≡ true = is_frame-spelled frame f in
     rw (small, there, all, whole) (ap Whole (sym long))
 
 -- a frame that is spelled is found at its first byte
-pub place_at-frame : (frame : List ℕ) → IsFrame frame → length frame ≤ LONGEST_FRAME → place_at frame ≡ Whole (length frame)
+pub place_at-frame : (frame : List ℕ) → IsFrame frame → length frame ≤ MAX_FRAME_BYTES → place_at frame ≡ Whole (length frame)
 unfolding place_at
 place_at-frame frame f fits =
     let c = f.content in

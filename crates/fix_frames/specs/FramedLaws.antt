@@ -7,10 +7,10 @@ use Rattle.std.specs.List.{list_all}
 use Rattle.std.specs.Str.Parse.{digits_value}
 use Rattle.std.proofs.lemmas.Fmt.{digits_decimal, digits_value-decimal, length-decimal-le, decimal_nonempty}
 use Rattle.std.proofs.lemmas.List.{append-nil}
+use Rattle.venue_words.specs.declared.limits.TheConstants.{MAX_FRAME_BYTES}
 use Rattle.fix_fields.specs.Forms.{numeral}
 use Rattle.fix_fields.specs.Spelling.{spelling}
 use Rattle.fix_fields.specs.Tags.{numerals}
-use Rattle.fix_fields.specs.declared.field.TheConstants.{LONGEST_FRAME}
 use Rattle.fix_write.specs.Digits.{three_digits}
 use Rattle.fix_write.specs.Fields.{field}
 use Rattle.fix_write.specs.Moments.{moment_text}
@@ -39,7 +39,7 @@ numeral-decimal n small =
     rw (all, worth) refl
 
 -- fields that are given, the first of which is MsgType, are written as a frame
-pub wrapped_frame : (content start : List ℕ) → content ≡ codes "35=" ++ start → EndsWithSoh content → length (wrapped content) ≤ LONGEST_FRAME → IsFrame (wrapped content)
+pub wrapped_frame : (content start : List ℕ) → content ≡ codes "35=" ++ start → EndsWithSoh content → length (wrapped content) ≤ MAX_FRAME_BYTES → IsFrame (wrapped content)
 wrapped_frame content start first last fits =
     let o = header (decimal (length content)) in
     let small : length content < 100000 = omega (arith, ap length (wrapped_is content), length-append (o ++ content) (check_sum (o ++ content)), length-append o content) in
@@ -96,7 +96,7 @@ body_ends xs body e (inl none) = record { most = e.most; ends = ap (λ (z : List
 body_ends xs body e (inr f) = append_ends xs body f
 
 -- a message whose body is empty or ends with SOH is written as a frame
-pub framed_frame : (kind : ℕ) (sender target : List ℕ) (number : ℕ) (moment : ℤ) (first_sent : Option ℤ) (body : List ℕ) → (body ≡ []) ⊎ EndsWithSoh body → length (frame_of kind sender target number moment first_sent body) ≤ LONGEST_FRAME → IsFrame (frame_of kind sender target number moment first_sent body)
+pub framed_frame : (kind : ℕ) (sender target : List ℕ) (number : ℕ) (moment : ℤ) (first_sent : Option ℤ) (body : List ℕ) → (body ≡ []) ⊎ EndsWithSoh body → length (frame_of kind sender target number moment first_sent body) ≤ MAX_FRAME_BYTES → IsFrame (frame_of kind sender target number moment first_sent body)
 unfolding frame_of
 framed_frame kind sender target number moment first_sent body whole fits =
     let head = head_text kind sender target number moment first_sent in

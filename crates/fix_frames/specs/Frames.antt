@@ -1,8 +1,8 @@
 -- Frames as they are spelled.
 use Rattle.std.specs.Prelude.{◌≡◌, ℕ, ◌%◌, ◌<◌, ◌≤◌, List, [], ◌∷◌, ◌++◌, length, sum, codes, Some}
+use Rattle.venue_words.specs.declared.limits.TheConstants.{SOH}
 use Rattle.fix_fields.specs.Forms.{numeral}
 use Rattle.fix_write.specs.Digits.{three_digits}
-use Rattle.fix_write.specs.declared.tags.TheConstants.{SOH}
 
 -- BeginString, and BodyLength with these digits
 abbrev pub header : List ℕ → List ℕ

@@ -2,8 +2,7 @@
 use Rattle.std.specs.Prelude.{ℕ, ◌+◌, ◌-◌, ◌*◌, ◌%◌, ◌^◌, ◌<◌, ◌≤◌, nat_lt, nat_eq, ◌==◌, Bool, ◌&&◌, not, if◌then◌else◌, List, [], ◌∷◌, ◌++◌, length, take, drop, slice_index, sum, codes}
 use Rattle.std.specs.List.{starts_with}
 use Rattle.std.specs.Char.{is_ascii_digit}
-use Rattle.fix_fields.specs.declared.field.TheConstants.{LONGEST_FRAME}
-use Rattle.fix_write.specs.declared.tags.TheConstants.{SOH}
+use Rattle.venue_words.specs.declared.limits.TheConstants.{MAX_FRAME_BYTES, SOH}
 use Rattle.fix_write.specs.Digits.{three_digits}
 use Rattle.fix_frames.specs.declared.place.Place.{Place}
 use Rattle.fix_frames.specs.declared.place.Place.TheVariants.{Passed, Unfinished, Long, Whole}
@@ -58,7 +57,7 @@ judged Bad bytes = Passed
 judged Partial bytes = Unfinished
 judged (Declared digits value) bytes =
     let size = 21 + digits + value in
-    if nat_lt LONGEST_FRAME size then Long
+    if nat_lt MAX_FRAME_BYTES size then Long
     else (if nat_lt (length bytes) size then Unfinished
     else (if is_frame (14 + digits) value (take size bytes) then Whole size else Passed))
 

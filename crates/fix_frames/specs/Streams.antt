@@ -1,6 +1,6 @@
 -- The frames of a stream of bytes, one after the other.
 use Rattle.std.specs.Prelude.{◌≡◌, ℕ, ◌+◌, ◌≤◌, ◌<◌, List, [], ◌∷◌, ◌++◌, length, take, drop}
-use Rattle.fix_fields.specs.declared.field.TheConstants.{LONGEST_FRAME}
+use Rattle.venue_words.specs.declared.limits.TheConstants.{MAX_FRAME_BYTES}
 use Rattle.fix_frames.specs.declared.place.Place.{Place}
 use Rattle.fix_frames.specs.declared.place.Place.TheVariants.{Passed, Unfinished, Long, Whole}
 use Rattle.fix_frames.specs.declared.framer.Next.{Next}
@@ -63,7 +63,7 @@ HasGiven old new frame =
 -- there is no further frame yet, the same comes next whatever follows, and few bytes are kept
 abbrev pub HasWaited : Stream → Stream → Type 0
 HasWaited old new =
-    (n : ℕ) × GoesOn old new n × Skips old.kept n × (next_from old.kept ≡ waits) × (length new.kept < LONGEST_FRAME)
+    (n : ℕ) × GoesOn old new n × Skips old.kept n × (next_from old.kept ≡ waits) × (length new.kept < MAX_FRAME_BYTES)
 
 -- the next frame is too long, now and from then on, whatever follows
 abbrev pub HasExceeded : Stream → Stream → Type 0

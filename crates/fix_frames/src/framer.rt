@@ -18,7 +18,7 @@ pub enum Next<'a> {
     Frame(&'a [u8]),
     /// There is no further frame yet.
     Wait,
-    /// The next frame declares more bytes than `LONGEST_FRAME` in all. The framer answers so from then on. What is
+    /// The next frame declares more bytes than `MAX_FRAME_BYTES` in all. The framer answers so from then on. What is
     /// fed then is still kept, so whoever feeds it ends the stream.
     TooLong,
 }
@@ -112,7 +112,7 @@ impl Framer {
     }
 
     /// The next frame of the stream so far, the bytes before it being passed over. `Wait` comes exactly where there is
-    /// none yet, and then fewer bytes are kept than `LONGEST_FRAME`.
+    /// none yet, and then fewer bytes are kept than `MAX_FRAME_BYTES`.
     pub fn next(&mut self) -> Next<'_>
         ensures* after { sem 𝓛 (Rests the_row self.entry (λ new. IsNext self.old result new)) }
     {

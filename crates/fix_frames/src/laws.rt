@@ -10,7 +10,8 @@ ghost use Rattle.fix_frames.specs.Reading.{none_yet, only_too_long, with_frames,
 ghost use Rattle.fix_frames.specs.Runs.{Call, waited, exceeded, Leads, bytes_fed, frames_given};
 ghost use Rattle.fix_frames.specs.Streams.{Stream, beginning, EndsWith, gives, next_from};
 
-use fix_fields::{FIRST_MOMENT, LAST_MOMENT, LONGEST_FRAME};
+use fix_fields::{FIRST_MOMENT, LAST_MOMENT};
+use venue_words::limits::MAX_FRAME_BYTES;
 
 /// However a stream is cut into pieces, and whenever the next frame is asked for: a framer's answers are the frames
 /// of the whole stream. `Leads beginning calls new` says that these calls, each with its answer, lead a new framer to
@@ -35,31 +36,31 @@ pub fn any_calls()
 /// What a framer gives is a frame, no frame is left out before it, and none that stands at the front is held back.
 /// `next_from` is what comes next in a stream, and `IsFrame` says how a frame is spelled.
 pub fn whole_frames()
-    // What comes next is a frame of at most `LONGEST_FRAME` bytes, and stands behind those that are passed over.
+    // What comes next is a frame of at most `MAX_FRAME_BYTES` bytes, and stands behind those that are passed over.
     ensures given { (bytes : List ℕ) (n : ℕ) (frame : List ℕ) → next_from bytes ≡ gives n frame →
-        IsFrame frame × (length frame ≤ LONGEST_FRAME) × (take (length frame) (drop n bytes) ≡ frame) }
+        IsFrame frame × (length frame ≤ MAX_FRAME_BYTES) × (take (length frame) (drop n bytes) ≡ frame) }
 
     // No such frame begins among those that are passed over.
     ensures first { (bytes : List ℕ) (n : ℕ) (frame : List ℕ) → next_from bytes ≡ gives n frame →
-        (k : ℕ) (other rest : List ℕ) → k < n → IsFrame other → length other ≤ LONGEST_FRAME →
+        (k : ℕ) (other rest : List ℕ) → k < n → IsFrame other → length other ≤ MAX_FRAME_BYTES →
         drop k bytes ≡ other ++ rest → ⊥ }
 
     // Such a frame at the front of a stream comes next, whatever follows it.
-    ensures front { (frame more : List ℕ) → IsFrame frame → length frame ≤ LONGEST_FRAME →
+    ensures front { (frame more : List ℕ) → IsFrame frame → length frame ≤ MAX_FRAME_BYTES →
         next_from (frame ++ more) ≡ gives 0 frame }
 {}
 
-/// What is written as a frame of at most `LONGEST_FRAME` bytes is a frame.
+/// What is written as a frame of at most `MAX_FRAME_BYTES` bytes is a frame.
 pub fn written_frames()
     // A message, whose body is empty or ends with SOH.
     ensures message { (kind : ℕ) (sender target : List ℕ) (number : ℕ) (moment : ℤ) (first_sent : Option ℤ)
         (body : List ℕ) → (body ≡ []) ⊎ EndsWithSoh body →
-        length (frame_of kind sender target number moment first_sent body) ≤ LONGEST_FRAME →
+        length (frame_of kind sender target number moment first_sent body) ≤ MAX_FRAME_BYTES →
         IsFrame (frame_of kind sender target number moment first_sent body) }
 
     // Fields that are given, the first of which is MsgType (35).
     ensures fields { (content start : List ℕ) → content ≡ codes "35=" ++ start → EndsWithSoh content →
-        length (wrapped content) ≤ LONGEST_FRAME → IsFrame (wrapped content) }
+        length (wrapped content) ≤ MAX_FRAME_BYTES → IsFrame (wrapped content) }
 {}
 
 /// A field is written as it is spelled where it is read.

@@ -6,7 +6,6 @@ pub mod laws;
 mod place;
 pub mod reading;
 
-pub use fix_fields::LONGEST_FRAME;
 pub use framer::{Framer, Next};
 pub use reading::{Reading, read_frames};
 

@@ -3,9 +3,8 @@ ghost use Rattle.std.specs.Prelude.{◌≡◌, ◌+◌, ◌≤◌, ◌<◌, ◌+
 ghost use Rattle.fix_frames.specs.Places.{length_after, body_length, IsSmall, has_check_sum, is_frame, judged, place_at};
 ghost use Rattle.fix_write.specs.Digits.{three_digits};
 
-use fix_fields::LONGEST_FRAME;
 use fix_write::checksum;
-use fix_write::tags::SOH;
+use venue_words::limits::{MAX_FRAME_BYTES, SOH};
 
 /// What stands at a place of a stream.
 #[derive(Clone, Copy, Debug)]
@@ -120,7 +119,7 @@ fn sized(digits: usize, value: usize, bytes: &[u8]) -> Place
     ensures { result ≡ judged (BodyLength.Declared digits value) bytes.now }
 {
     let size = 21 + digits + value;
-    if size > LONGEST_FRAME {
+    if size > MAX_FRAME_BYTES {
         return Place::Long;
     }
     if bytes.len() < size {

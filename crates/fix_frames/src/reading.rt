@@ -8,7 +8,7 @@ use crate::framer::{Framer, Next};
 use std::alloc::Global;
 use venue_words::{Bytes, Items, NoMemory};
 
-/// The frames of a stream so far, and whether one behind them declares more bytes than `LONGEST_FRAME`.
+/// The frames of a stream so far, and whether one behind them declares more bytes than `MAX_FRAME_BYTES`.
 #[derive(Debug, Drop)]
 pub struct Reading {
     pub frames: Items<Bytes>,

@@ -1,11 +1,12 @@
 //! Worked examples, cut into two pieces at every place and into pieces of one byte.
-use crate::{Framer, LONGEST_FRAME, Next, Reading, read_frames};
+use crate::{Framer, Next, Reading, read_frames};
 use fix_fields::{fields, moment};
 use fix_write::{Head, frame, push_moment, wrap};
 use std::alloc::Global;
 use std::process::Abort;
 use std::test::Fail;
 use venue_words::NoMemory;
+use venue_words::limits::MAX_FRAME_BYTES;
 
 /// Two Heartbeats of a session, numbers 2 and 3.
 const SECOND: &[u8] =
@@ -171,7 +172,7 @@ fn text_frame(alloc: Global, size: usize) -> Result<Vec<u8>, NoMemory> {
 fn the_longest_frame_is_given(rt: HostRuntime) -> Result<(), Fail> {
     let longest = text_frame(rt.alloc(), 8158)?;
     let bytes = longest.as_slice();
-    assert_eq!(rt; bytes.len(), LONGEST_FRAME);
+    assert_eq!(rt; bytes.len(), MAX_FRAME_BYTES);
     for cut in [0, 1, 20, 4096, 8191] {
         let reading = read_frames(rt.alloc(), &[&bytes[..cut], &bytes[cut..], SHORT])?;
         assert!(rt;

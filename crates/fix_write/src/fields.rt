@@ -5,8 +5,8 @@ ghost use Rattle.fix_write.specs.Fields.{field};
 
 use crate::digits::push_number;
 use crate::moments::push_moment;
-use crate::tags::SOH;
 use venue_words::NoMemory;
+use venue_words::limits::SOH;
 
 /// Appends a field. After a refusal the text may hold a part of it.
 #[tactic(auto, unfolding(crate::specs::Fields::field))]

@@ -1,7 +1,4 @@
-//! The tags of the fields round a message's body, and the byte that ends a field.
-
-/// SOH, which ends each field.
-pub const SOH: u8 = 1;
+//! The tags of the fields round a message's body.
 
 /// BeginString: always `FIXT.1.1`, and always the first field.
 pub const BEGIN_STRING: u32 = 8;

@@ -10,6 +10,3 @@ pub mod tree;
 
 pub use node::{Node, fill, leaf};
 pub use tree::LimitTree;
-
-#[cfg(test)]
-mod tests;

@@ -1,6 +1,6 @@
 -- Each identifier that a book holds or tells was given by a command.
 use Rattle.std.proofs.Common.{◌≡◌, ℕ, zero, suc, ◌+◌, Bool, true, false, cond, List, [], ◌∷◌, Option, Some, None, refl, subst}
-use Rattle.std.specs.Prelude.{fold, find, nat_lt, slice_get, option_map, option_to_list}
+use Rattle.std.specs.Prelude.{fold, find, slice_get, option_map, option_to_list}
 use Rattle.std.specs.Option.{option_map_or}
 use Rattle.std.specs.List.{AllByRecursion, enumerate_from}
 use Rattle.venue_words.specs.declared.command.Command.{Command}
@@ -11,7 +11,9 @@ use Rattle.venue_words.specs.declared.command.Terms.{Terms}
 use Rattle.venue_words.specs.declared.price.Best.{Best}
 use Rattle.venue_words.specs.declared.price.Side.{Side}
 use Rattle.venue_words.specs.declared.price.Side.TheVariants.{Buy, Sell}
-use Rattle.venue_words.specs.declared.report.Kind.TheVariants.{Status, Unknown}
+use Rattle.venue_words.specs.declared.report.Execution.TheVariants.{Status}
+use Rattle.venue_words.specs.declared.report.Kind.TheVariants.{Order as OrderReport, Unknown}
+use Rattle.venue_words.specs.declared.report.LiveOrder.{LiveOrder}
 use Rattle.venue_words.specs.declared.row.Priced.{Priced}
 use Rattle.venue_words.specs.ListLaws.{all_append}
 use Rattle.venue_words.specs.Best.{best_of}
@@ -19,11 +21,10 @@ use Rattle.eager_meaning.specs.declared.notice.Notice.{Notice}
 use Rattle.eager_meaning.specs.declared.order.Order.{Order}
 use Rattle.eager_meaning.specs.declared.order.Live.{Live}
 use Rattle.eager_meaning.specs.declared.trade.Fill.{Fill}
-use Rattle.eager_meaning.specs.declared.trade.Party.{Party}
 use Rattle.eager_meaning.specs.State.{State, Outcome, own_rows, other_rows, with_rows, with_no_notice, with_notice}
 use Rattle.eager_meaning.specs.Orders.{changed_at, is_named, order_named}
 use Rattle.eager_meaning.specs.Quoting.{requote, on_quote, with_quote, same_best}
-use Rattle.eager_meaning.specs.Showing.{view_of, view_at, view_live, view_closed, view_traded}
+use Rattle.eager_meaning.specs.Showing.{view_with}
 use Rattle.eager_meaning.specs.Trades.{order_after, orders_after, orders_after_all, trade_notice, trade_notices}
 use Rattle.eager_meaning.specs.Entering.{Arrival, Entered, entered, leftover_notice, leftover_notices, enter, accepted_order, arrival_of_new, on_new}
 use Rattle.eager_meaning.specs.Changing.{cancel, on_cancel, replaced_order, only_lowers, resize, arrival_of_replace, on_replace}
@@ -65,19 +66,9 @@ module _ (P : List ℕ → Type 0) where
   after_trades [] orders a = a
   after_trades (fill ∷ fills) orders a = after_trades fills (orders_after fill orders) (after_trade fill orders a)
 
-  traded_id : (order : Order) (party : Party) → P order.id → P (view_traded order party).id
-  unfolding view_traded view_at view_closed
-  traded_id order party p =
-      elim (nat_lt order.cum order.quantity) as (λ b. P (cond b (view_at order party.price party.time) (view_closed order)).id) [ true ↦ p | false ↦ p ]
-
-  closed_id : (order : Order) → P order.id → P (view_closed order).id
-  unfolding view_closed
-  closed_id order p = p
-
-  shown_id : (order : Order) (row : Option Priced) → P order.id → P (view_of order row).id
-  unfolding view_of view_at view_closed
-  shown_id order None p = p
-  shown_id order (Some x) p = elim (nat_lt order.cum order.quantity) as (λ b. P (cond b (view_live order x) (view_closed order)).id) [ true ↦ p | false ↦ p ]
+  shown_id : (order : Order) (live : Option LiveOrder) → P order.id → P (view_with order live).id
+  unfolding view_with
+  shown_id order live p = p
 
   trades_told : (fills : List Fill) (orders : List Order) → AreHeld orders → AreTold (trade_notices fills orders)
   unfolding trade_notices trade_notice
@@ -86,9 +77,9 @@ module _ (P : List ℕ → Type 0) where
       let next : List Order = orders_after fill orders in
       let held = after_trade fill orders a in
       all_append (λ notice. EachTold P notice.kind) (trade_notice fill next fill.taker) _
-      (all_at (λ order. P order.id) (λ notice. EachTold P notice.kind) _ (λ order p. traded_id order fill.taker p) next held fill.taker.order)
+      (all_at (λ order. P order.id) (λ notice. EachTold P notice.kind) _ (λ order p. (shown_id order _ p, tt)) next held fill.taker.order)
       (all_append (λ notice. EachTold P notice.kind) (trade_notice fill next fill.contra) _
-      (all_at (λ order. P order.id) (λ notice. EachTold P notice.kind) _ (λ order p. traded_id order fill.contra p) next held fill.contra.order)
+      (all_at (λ order. P order.id) (λ notice. EachTold P notice.kind) _ (λ order p. (shown_id order _ p, tt)) next held fill.contra.order)
       (trades_told fills next held))
 
   none_of : (id : List ℕ) → None ≡ Some id → P id
@@ -98,7 +89,7 @@ module _ (P : List ℕ → Type 0) where
   unfolding leftover_notices
   left_told true left orders a =
       all_flat (λ notice. EachTold P notice.kind) (λ x. leftover_notice x.row.order orders)
-      (λ x. all_at (λ order. P order.id) (λ notice. EachTold P notice.kind) _ (λ order p. (closed_id order p, none_of)) orders a x.row.order) left
+      (λ x. all_at (λ order. P order.id) (λ notice. EachTold P notice.kind) _ (λ order p. (shown_id order _ p, none_of)) orders a x.row.order) left
   left_told false left orders a = tt
 
   -- ---- events
@@ -147,7 +138,7 @@ module _ (P : List ℕ → Type 0) where
       let arrival : Arrival = arrival_of_new tick event member id terms s in
       enter_holds arrival
       (record { orders = all_append (λ x. P x.id) s.orders (order ∷ []) a.orders (p, tt); used = all_append (λ name. P name.1) s.used ((member, id) ∷ []) a.used (p, tt) })
-      (shown_id order (Some arrival.taker) p)
+      (shown_id order _ p, tt)
 
   some_id : (orig id : List ℕ) → P orig → Some orig ≡ Some id → P id
   some_id orig id p e = let same : orig ≡ id = cc in subst P same p
@@ -172,8 +163,8 @@ module _ (P : List ℕ → Type 0) where
       let held = all_changed (λ x. P x.id) (replaced_order tick id terms) (λ x old. p) live.number s.orders a.orders in
       let used = all_append (λ name. P name.1) s.used ((member, id) ∷ []) a.used (p, tt) in
       elim (only_lowers tick terms live) as (λ b. OutcomeHolds (cond b (resize tick member id orig terms live s) (enter arrival))) [
-        | true ↦ record { state = record { orders = held; used = used }; told = ((shown_id order (Some live.row) p, q), tt) }
-        | false ↦ enter_holds arrival (record { orders = held; used = used }) (shown_id order (Some arrival.taker) p, q)
+        | true ↦ record { state = record { orders = held; used = used }; told = ((shown_id order _ p, q), tt) }
+        | false ↦ enter_holds arrival (record { orders = held; used = used }) (shown_id order _ p, q)
       ]
 
   -- an order that is found is one of the orders
@@ -188,9 +179,9 @@ module _ (P : List ℕ → Type 0) where
   status_holds : (member : ℕ) (id : List ℕ) (side : ℕ) (s : State) → P id → StateHolds s → OutcomeHolds (on_status member id side s)
   unfolding on_status order_named
   status_holds member id side s p a =
-      (elim (order_named member id s.orders) as (λ o. order_named member id s.orders ≡ o → OutcomeHolds (with_notice member (option_map_or (λ x. Status (view_now s x)) o (Unknown id side)) s)) [
+      (elim (order_named member id s.orders) as (λ o. order_named member id s.orders ≡ o → OutcomeHolds (with_notice member (option_map_or (λ x. OrderReport (view_now s x) Status) o (Unknown id side)) s)) [
         | None ↦ λ e. record { state = a; told = (p, tt) }
-        | Some found ↦ λ e. record { state = a; told = (shown_id found.1 _ (found_id (λ x. is_named member id x.1) 0 s.orders found e a.orders), tt) }
+        | Some found ↦ λ e. record { state = a; told = ((shown_id found.1 _ (found_id (λ x. is_named member id x.1) 0 s.orders found e a.orders), tt), tt) }
       ]) refl
 
   outcome_holds : (tick event : ℕ) (command : Command) (s : State) → EachGiven P command → StateHolds s → OutcomeHolds (outcome_of tick event command s)

@@ -1,6 +1,6 @@
 -- The reports of an event are in their places, and a New has one answer.
-use Rattle.std.proofs.Common.{◌≡◌, ℕ, zero, suc, ◌+◌, Bool, true, false, cond, List, [], ◌∷◌, Option, Some, None, refl, ap, sym, subst, arith}
-use Rattle.std.specs.Prelude.{slice_get, nat_lt}
+use Rattle.std.proofs.Common.{◌≡◌, ℕ, zero, suc, ◌+◌, Bool, true, false, List, [], ◌∷◌, Option, Some, None, refl, ap, sym, subst, arith}
+use Rattle.std.specs.Prelude.{slice_get}
 use Rattle.std.specs.List.{AllByRecursion}
 use Rattle.venue_words.specs.declared.command.Command.{Command}
 use Rattle.venue_words.specs.declared.command.Command.TheVariants.{New}
@@ -14,8 +14,7 @@ use Rattle.eager_meaning.specs.declared.notice.Notice.{Notice}
 use Rattle.eager_meaning.specs.declared.order.Order.{Order}
 use Rattle.eager_meaning.specs.declared.trade.Fill.{Fill}
 use Rattle.eager_meaning.specs.State.{State}
-use Rattle.venue_words.specs.declared.report.View.{View}
-use Rattle.eager_meaning.specs.Showing.{view_of, view_at, view_live, view_closed}
+use Rattle.eager_meaning.specs.Showing.{view_with}
 use Rattle.eager_meaning.specs.Trades.{orders_after, trade_notice, trade_notices}
 use Rattle.eager_meaning.specs.Entering.{leftover_notice, leftover_notices, enter, arrival_of_new, on_new, accepted_order}
 use Rattle.eager_meaning.specs.Step.{Run, runs, step, outcome_of, reports_from}
@@ -86,24 +85,16 @@ record AnswersFirst (event member : ℕ) (id : List ℕ) (terms : Terms) (broken
   says : IsAnswer event id terms broken answer.kind
   once : AllByRecursion NoAnswer others
 
-pub view_id : (order : Order) (x : Priced) → ((view_of order (Some x)).id ≡ order.id) × ((view_of order (Some x)).first ≡ order.first)
-unfolding view_of view_at view_closed
-view_id order x =
-    let P : View → Type 0 = λ v. (v.id ≡ order.id) × (v.first ≡ order.first) in
-    elim (nat_lt order.cum order.quantity) as (λ b. P (cond b (view_live order x) (view_closed order))) [ true ↦ (refl, refl) | false ↦ (refl, refl) ]
-
 new_answers : (tick event member : ℕ) (id : List ℕ) (terms : Terms) (broken : Option Rule) (s : State) → AnswersFirst event member id terms broken (on_new tick event member id terms broken s).notices
-unfolding on_new enter arrival_of_new accepted_order
+unfolding on_new enter arrival_of_new accepted_order view_with
 new_answers tick event member id terms (Some rule) s = record { answer = _; others = []; all = refl; to = refl; says = refl; once = tt }
 new_answers tick event member id terms None s =
-    let arrival = arrival_of_new tick event member id terms s in
-    let shown = view_id (accepted_order tick event member id terms) arrival.taker in
     record {
-      answer = arrival.notice;
+      answer = (arrival_of_new tick event member id terms s).notice;
       others = _;
       all = refl;
       to = refl;
-      says = (_, refl, shown.0, shown.1);
+      says = (_, refl, refl, refl);
       once = all_append NoAnswer (trade_notices _ _) (leftover_notices _ _ _) (trades_no_answer _ _) (left_no_answer _ _ _);
     }
 

@@ -12,8 +12,9 @@ use Rattle.venue_words.specs.declared.price.TheConstants.{PRICE_END}
 use Rattle.venue_words.specs.declared.price.Best.{Best}
 use Rattle.venue_words.specs.declared.price.Side.{Side}
 use Rattle.venue_words.specs.declared.price.Side.TheVariants.{Buy, Sell}
+use Rattle.venue_words.specs.declared.report.Execution.TheVariants.{Status}
 use Rattle.venue_words.specs.declared.report.Kind.{Kind}
-use Rattle.venue_words.specs.declared.report.Kind.TheVariants.{Status, Unknown}
+use Rattle.venue_words.specs.declared.report.Kind.TheVariants.{Order as OrderReport, Unknown}
 use Rattle.venue_words.specs.declared.row.Priced.{Priced}
 use Rattle.venue_words.specs.ListLaws.{all_append}
 use Rattle.venue_words.specs.Best.{best_of}
@@ -282,7 +283,7 @@ replace_fair tick event member id orig terms (Some live) used None s is v rows =
 status_fair : (member : ℕ) (id : List ℕ) (side : ℕ) (s : State) → IsPlacedBook s → IsFair (on_status member id side s)
 unfolding on_status
 status_fair member id side s rows =
-    elim (order_named member id s.orders) as (λ found. IsFair (with_notice member (option_map_or (λ x. Status (view_now s x)) found (Unknown id side)) s)) [
+    elim (order_named member id s.orders) as (λ found. IsFair (with_notice member (option_map_or (λ x. OrderReport (view_now s x) Status) found (Unknown id side)) s)) [
       | None ↦ one_fair member _ s (record { none = λ z. refl; any = λ best. tt }) rows
       | Some x ↦ one_fair member _ s (record { none = λ z. refl; any = λ best. tt }) rows
     ]

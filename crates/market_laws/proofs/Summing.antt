@@ -1,6 +1,6 @@
 -- Each order's CumQty is the sum of the trades that are told of it.
 use Rattle.std.proofs.Common.{◌≡◌, ℕ, zero, suc, ◌+◌, ◌<◌, ◌≤◌, Bool, true, false, cond, List, [], ◌∷◌, ◌++◌, Option, Some, None, refl, ap, sym, ◌∙◌, zero-add, add-zero, subst, arith, inl, inr}
-use Rattle.std.specs.Prelude.{◌⊎◌, slice_get, nat_lt, sum_by, map, option_map, option_to_list, ◌==◌}
+use Rattle.std.specs.Prelude.{◌⊎◌, slice_get, sum_by, map, option_map, option_to_list, ◌==◌}
 use Rattle.std.specs.Option.{option_map_or}
 use Rattle.std.specs.List.{AllByRecursion}
 use Rattle.std.proofs.lemmas.Bool.Decides.{nat_tests}
@@ -13,8 +13,9 @@ use Rattle.venue_words.specs.declared.command.Terms.{Terms}
 use Rattle.venue_words.specs.declared.price.Best.{Best}
 use Rattle.venue_words.specs.declared.price.Side.{Side}
 use Rattle.venue_words.specs.declared.price.Side.TheVariants.{Buy, Sell}
+use Rattle.venue_words.specs.declared.report.Execution.TheVariants.{Traded, Status}
 use Rattle.venue_words.specs.declared.report.Kind.{Kind}
-use Rattle.venue_words.specs.declared.report.Kind.TheVariants.{Traded, Status, Unknown}
+use Rattle.venue_words.specs.declared.report.Kind.TheVariants.{Order as OrderReport, Unknown}
 use Rattle.venue_words.specs.declared.report.Report.{Report}
 use Rattle.venue_words.specs.declared.row.Priced.{Priced}
 use Rattle.venue_words.specs.ListLaws.{all_append}
@@ -26,7 +27,7 @@ use Rattle.eager_meaning.specs.declared.order.Live.{Live}
 use Rattle.eager_meaning.specs.declared.trade.Fill.{Fill}
 use Rattle.eager_meaning.specs.declared.trade.Party.{Party}
 use Rattle.eager_meaning.specs.State.{State, Outcome, own_rows, other_rows, with_rows, with_no_notice, with_notice}
-use Rattle.eager_meaning.specs.Showing.{view_traded, view_at, view_closed}
+use Rattle.eager_meaning.specs.Showing.{view_with, view_traded}
 use Rattle.eager_meaning.specs.Trades.{order_after, orders_after, orders_after_all, trade_notice, trade_notices}
 use Rattle.eager_meaning.specs.Recheck.{Matched, recheck}
 use Rattle.eager_meaning.specs.Quoting.{requote, on_quote, with_quote, same_best}
@@ -105,17 +106,12 @@ firsts_after fill orders =
 same_first_at : (orders next : List Order) (k : ℕ) → map (λ order. order.first) next ≡ map (λ order. order.first) orders → first_at next k ≡ first_at orders k
 same_first_at orders next k e = sym (first_from next k) ∙ (ap (λ (ns : List ℕ). slice_get ns k) e ∙ first_from orders k)
 
-traded_first : (order : Order) (party : Party) → (view_traded order party).first ≡ order.first
-unfolding view_traded view_at view_closed
-traded_first order party =
-    elim (nat_lt order.cum order.quantity) as (λ b. (cond b (view_at order party.price party.time) (view_closed order)).first ≡ order.first)
-    [ true ↦ refl | false ↦ refl ]
-
 one_told : (first : ℕ) (fill : Fill) (party : Party) (found : Option Order)
-    → told_of first (option_to_list (option_map (λ order. record { member = order.member; kind = Traded (view_traded order party) fill.quantity fill.price }) found))
+    → told_of first (option_to_list (option_map (λ order. record { member = order.member; kind = OrderReport (view_traded order party) (Traded fill.quantity fill.price) }) found))
     ≡ shares_for first (option_map (λ order. order.first) found) fill.quantity
+unfolding view_with
 one_told first fill party None = refl
-one_told first fill party (Some order) = ap (λ n. 0 + cond (n == first) fill.quantity 0) (traded_first order party) ∙ zero-add _
+one_told first fill party (Some order) = zero-add _
 
 trade_told : (first : ℕ) (fill : Fill) (orders : List Order) (party : Party) → told_of first (trade_notice fill orders party) ≡ shares_for first (first_at orders party.order) fill.quantity
 unfolding trade_notice
@@ -276,7 +272,7 @@ replace_adds tick event member id orig terms (Some live) None s =
 status_adds : (event member : ℕ) (id : List ℕ) (side : ℕ) (s : State) → AddsTold event s (on_status member id side s)
 unfolding on_status
 status_adds event member id side s =
-    elim (order_named member id s.orders) as (λ found. AddsTold event s (with_notice member (option_map_or (λ x. Status (view_now s x)) found (Unknown id side)) s)) [
+    elim (order_named member id s.orders) as (λ found. AddsTold event s (with_notice member (option_map_or (λ x. OrderReport (view_now s x) Status) found (Unknown id side)) s)) [
       | None ↦ same_orders event member _ s s (λ first. refl) refl
       | Some x ↦ same_orders event member _ s s (λ first. refl) refl
     ]

@@ -1,21 +1,22 @@
 -- What the notices of trades tell.
-use Rattle.std.proofs.Common.{◌≡◌, ℕ, ◌+◌, Bool, true, false, cond, List, [], ◌∷◌, ◌++◌, Option, Some, None, refl, ap, sym, ◌∙◌, zero-add, arith}
-use Rattle.std.specs.Prelude.{slice_get, nat_lt, sum_by, option_map, option_to_list}
+use Rattle.std.proofs.Common.{◌≡◌, ℕ, ◌+◌, Bool, true, false, List, [], ◌∷◌, ◌++◌, Option, Some, None, refl, ap, sym, ◌∙◌, zero-add, arith}
+use Rattle.std.specs.Prelude.{slice_get, sum_by, option_map, option_to_list}
 use Rattle.std.proofs.lemmas.List.Sums.{sum_by-append, sum_by-cons}
 use Rattle.std.specs.List.{AllByRecursion}
 use Rattle.venue_words.specs.declared.command.Event.{Event}
 use Rattle.venue_words.specs.declared.price.Best.{Best}
 use Rattle.venue_words.specs.declared.price.Side.{Side}
 use Rattle.venue_words.specs.declared.price.Side.TheVariants.{Buy, Sell}
+use Rattle.venue_words.specs.declared.report.Execution.TheVariants.{Traded}
 use Rattle.venue_words.specs.declared.report.Kind.{Kind}
-use Rattle.venue_words.specs.declared.report.Kind.TheVariants.{Traded}
+use Rattle.venue_words.specs.declared.report.Kind.TheVariants.{Order as OrderReport}
 use Rattle.venue_words.specs.declared.row.Priced.{Priced}
 use Rattle.venue_words.specs.ListLaws.{all_append}
 use Rattle.eager_meaning.specs.declared.notice.Notice.{Notice}
 use Rattle.eager_meaning.specs.declared.order.Order.{Order}
 use Rattle.eager_meaning.specs.declared.trade.Fill.{Fill}
 use Rattle.eager_meaning.specs.declared.trade.Party.{Party}
-use Rattle.eager_meaning.specs.Showing.{view_traded, view_at, view_closed}
+use Rattle.eager_meaning.specs.Showing.{view_with, view_traded}
 use Rattle.eager_meaning.specs.Trades.{orders_after, trade_notice, trade_notices}
 use Rattle.eager_meaning.specs.Entering.{leftover_notice, leftover_notices}
 use Rattle.eager_meaning.specs.Step.{reports_from}
@@ -70,18 +71,11 @@ left_no_trade false left orders = tt
 
 -- ---- trades
 
-traded_side : (order : Order) (party : Party) → (view_traded order party).side ≡ order.side
-unfolding view_traded view_at view_closed
-traded_side order party =
-    elim (nat_lt order.cum order.quantity) as (λ b. (cond b (view_at order party.price party.time) (view_closed order)).side ≡ order.side)
-    [ true ↦ refl | false ↦ refl ]
-
 one_told : (fill : Fill) (party : Party) (side s : Side) (found : Option Order) → option_map (λ order. order.side) found ≡ Some side
-    → shares_told s (option_to_list (option_map (λ order. record { member = order.member; kind = Traded (view_traded order party) fill.quantity fill.price }) found)) ≡ shares_if s side fill.quantity
+    → shares_told s (option_to_list (option_map (λ order. record { member = order.member; kind = OrderReport (view_traded order party) (Traded fill.quantity fill.price) }) found)) ≡ shares_if s side fill.quantity
+unfolding view_with
 one_told fill party side s None h = cc
-one_told fill party side s (Some order) h =
-    let e : (view_traded order party).side ≡ side = traded_side order party ∙ some_is _ _ h in
-    ap (λ (z : Side). 0 + shares_if s z fill.quantity) e ∙ zero-add _
+one_told fill party side s (Some order) h = ap (λ (z : Side). 0 + shares_if s z fill.quantity) (some_is _ _ h) ∙ zero-add _
 
 trade_told : (fill : Fill) (orders : List Order) (party : Party) (side s : Side) → side_at orders party.order ≡ Some side → shares_told s (trade_notice fill orders party) ≡ shares_if s side fill.quantity
 unfolding trade_notice

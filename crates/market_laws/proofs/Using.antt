@@ -13,7 +13,8 @@ use Rattle.venue_words.specs.declared.command.Terms.{Terms}
 use Rattle.venue_words.specs.declared.price.Best.{Best}
 use Rattle.venue_words.specs.declared.price.Side.{Side}
 use Rattle.venue_words.specs.declared.price.Side.TheVariants.{Buy, Sell}
-use Rattle.venue_words.specs.declared.report.Kind.TheVariants.{Status, Unknown}
+use Rattle.venue_words.specs.declared.report.Execution.TheVariants.{Status}
+use Rattle.venue_words.specs.declared.report.Kind.TheVariants.{Order as OrderReport, Unknown}
 use Rattle.venue_words.specs.declared.report.Report.{Report}
 use Rattle.venue_words.specs.declared.row.Priced.{Priced}
 use Rattle.venue_words.specs.ListLaws.{all_weaken, all_append}
@@ -28,13 +29,13 @@ use Rattle.eager_meaning.specs.Quoting.{requote, on_quote, with_quote, same_best
 use Rattle.eager_meaning.specs.Trades.{order_after, orders_after, orders_after_all, trade_notice, trade_notices}
 use Rattle.eager_meaning.specs.Entering.{Arrival, Entered, entered, leftover_notice, leftover_notices, enter, accepted_order, arrival_of_new, on_new}
 use Rattle.eager_meaning.specs.Changing.{cancel, on_cancel, replaced_order, only_lowers, resize, arrival_of_replace, on_replace}
+use Rattle.eager_meaning.specs.Showing.{view_with}
 use Rattle.eager_meaning.specs.Verdict.{Test, first_broken, verdict}
 use Rattle.eager_meaning.specs.Step.{Run, runs, step, view_now, on_status, outcome_of, reports_from}
 use Rattle.market_laws.specs.ListLaws.{all_found, all_flat}
 use Rattle.market_laws.specs.Names.{Name, name_of, AreNamed, OrdersAreNamed, used_by, names_used_by, UsedNamesAreTold}
 use Rattle.market_laws.proofs.Distinct.{AreDistinct, distinct_append, put_at, distinct_put, all_put, name_with, map_put, map_kept, all_get, one_place, IsUsed, unused_differs, used_differ, still_used, last_used, names, name_at, found_by_name}
 use Rattle.market_laws.specs.LiveLaws.{live_found, live_member}
-use Rattle.market_laws.proofs.Replying.{view_id}
 
 -- ---- names that stay apart
 
@@ -228,12 +229,9 @@ enter_uses s name arrival used first =
     same_used side after.own after.others (record t { orders = orders }) ∙ (used ∙ sym (ap (λ (more : List Name). s.used ++ more) told))
 
 new_uses : (tick event member : ℕ) (id : List ℕ) (terms : Terms) (broken : Option Rule) (s : State) → UsesUp s (on_new tick event member id terms broken s)
-unfolding on_new arrival_of_new accepted_order
+unfolding on_new arrival_of_new accepted_order view_with
 new_uses tick event member id terms (Some rule) s = sym (append-nil s.used)
-new_uses tick event member id terms None s =
-    let arrival : Arrival = arrival_of_new tick event member id terms s in
-    let shown = view_id (accepted_order tick event member id terms) arrival.taker in
-    enter_uses s (member, id) arrival refl (ap (λ (i : List ℕ). name_with member i ∷ []) shown.0)
+new_uses tick event member id terms None s = enter_uses s (member, id) (arrival_of_new tick event member id terms s) refl refl
 
 cancel_uses : (member : ℕ) (id orig : List ℕ) (live : Option Live) (broken : Option Rule) (s : State) → UsesUp s (on_cancel member id orig live broken s)
 unfolding on_cancel cancel
@@ -242,23 +240,18 @@ cancel_uses member id orig None None s = sym (append-nil s.used)
 cancel_uses member id orig (Some live) None s = refl
 
 replace_uses : (tick event member : ℕ) (id orig : List ℕ) (terms : Terms) (live : Option Live) (broken : Option Rule) (s : State) → UsesUp s (on_replace tick event member id orig terms live broken s)
-unfolding on_replace resize arrival_of_replace
+unfolding on_replace resize arrival_of_replace view_with
 replace_uses tick event member id orig terms live (Some rule) s = sym (append-nil s.used)
 replace_uses tick event member id orig terms None None s = sym (append-nil s.used)
 replace_uses tick event member id orig terms (Some live) None s =
-    let order : Order = replaced_order tick id terms live.order in
     let arrival : Arrival = arrival_of_replace tick event member id orig terms live s in
-    let resized = view_id order live.row in
-    let shown = view_id order arrival.taker in
-    elim (only_lowers tick terms live) as (λ b. UsesUp s (cond b (resize tick member id orig terms live s) (enter arrival))) [
-      | true ↦ ap (λ (i : List ℕ). s.used ++ name_with member i ∷ []) (sym resized.0)
-      | false ↦ enter_uses s (member, id) arrival refl (ap (λ (i : List ℕ). name_with member i ∷ []) shown.0)
-    ]
+    elim (only_lowers tick terms live) as (λ b. UsesUp s (cond b (resize tick member id orig terms live s) (enter arrival)))
+    [ true ↦ refl | false ↦ enter_uses s (member, id) arrival refl refl ]
 
 status_uses : (member : ℕ) (id : List ℕ) (side : ℕ) (s : State) → UsesUp s (on_status member id side s)
 unfolding on_status
 status_uses member id side s =
-    elim (order_named member id s.orders) as (λ o. UsesUp s (with_notice member (option_map_or (λ x. Status (view_now s x)) o (Unknown id side)) s))
+    elim (order_named member id s.orders) as (λ o. UsesUp s (with_notice member (option_map_or (λ x. OrderReport (view_now s x) Status) o (Unknown id side)) s))
     [ None ↦ sym (append-nil s.used) | Some found ↦ sym (append-nil s.used) ]
 
 outcome_uses : (tick event : ℕ) (command : Command) (s : State) → UsesUp s (outcome_of tick event command s)

@@ -6,14 +6,17 @@ use Rattle.std.specs.Option.{ForSome}
 use Rattle.venue_words.specs.declared.command.Command.{Command}
 use Rattle.venue_words.specs.declared.command.Command.TheVariants.{Quote, New, Cancel, Replace, Status as Request}
 use Rattle.venue_words.specs.declared.command.Event.{Event}
+use Rattle.venue_words.specs.declared.report.Execution.{Execution}
+use Rattle.venue_words.specs.declared.report.Execution.TheVariants.{Canceled, Replaced}
 use Rattle.venue_words.specs.declared.report.Kind.{Kind}
-use Rattle.venue_words.specs.declared.report.Kind.TheVariants.{Accepted, Rejected, Traded, Canceled, Replaced, Status, Unknown, Refused}
-use Rattle.venue_words.specs.Conditions.{longest_id, fits_id, fits_limits}
+use Rattle.venue_words.specs.declared.report.Kind.TheVariants.{Order, Rejected, Unknown, Refused}
+use Rattle.venue_words.specs.Conditions.{fits_id, fits_limits}
+use Rattle.venue_words.specs.declared.limits.TheConstants.{MAX_ID_BYTES}
 use Rattle.eager_meaning.specs.Step.{Run, runs}
 
 -- an identifier of at most 64 bytes
 abbrev pub IsShort : List ℕ → Type 0
-IsShort id = length id ≤ longest_id
+IsShort id = length id ≤ MAX_ID_BYTES
 
 -- what holds of each identifier of a command
 abbrev pub EachGiven : (List ℕ → Type 0) → Command → Type 0
@@ -23,16 +26,18 @@ EachGiven P (Cancel member id orig) = P id × P orig
 EachGiven P (Replace member id orig terms) = P id × P orig
 EachGiven P (Request member id side) = P id
 
+-- what holds of the identifier that an order had before, where a report tells it
+abbrev pub OrigTold : (List ℕ → Type 0) → Execution → Type 0
+OrigTold P (Canceled orig) = ForSome orig P
+OrigTold P (Replaced orig) = P orig
+OrigTold P _ = Unit {0}
+
 -- what holds of each identifier that a report tells
 abbrev pub EachTold : (List ℕ → Type 0) → Kind → Type 0
-EachTold P (Accepted view) = P view.id
-EachTold P (Traded view quantity price) = P view.id
-EachTold P (Canceled view orig) = P view.id × ForSome orig P
-EachTold P (Replaced view orig) = P view.id × P orig
+EachTold P (Order view execution) = P view.id × OrigTold P execution
 EachTold P (Rejected id side quantity rule) = P id
-EachTold P (Status view) = P view.id
 EachTold P (Unknown id side) = P id
-EachTold P (Refused id orig first state answer rule) = P id × P orig
+EachTold P (Refused id orig order request rule) = P id × P orig
 
 -- the identifiers that a book holds: those of its orders, and those that are used up
 pub record EachHeld (P : List ℕ → Type 0) (run : Run) : Type 0 where

@@ -1,9 +1,9 @@
 -- The names of orders: a member and the identifier that it gave.
 use Rattle.std.specs.Prelude.{◌≡◌, ℕ, true, List, [], ◌∷◌, flat_map, slice_get, Some}
-use Rattle.std.specs.Option.{option_map_or}
 use Rattle.venue_words.specs.declared.command.Event.{Event}
+use Rattle.venue_words.specs.declared.report.Execution.TheVariants.{Accepted, Canceled, Replaced}
 use Rattle.venue_words.specs.declared.report.Kind.{Kind}
-use Rattle.venue_words.specs.declared.report.Kind.TheVariants.{Accepted, Rejected, Traded, Canceled, Replaced, Status, Unknown, Refused}
+use Rattle.venue_words.specs.declared.report.Kind.TheVariants.{Order as OrderReport}
 use Rattle.venue_words.specs.declared.report.Report.{Report}
 use Rattle.eager_meaning.specs.declared.order.Order.{Order}
 use Rattle.eager_meaning.specs.Orders.{order_named, is_used}
@@ -31,14 +31,10 @@ OrdersAreNamed = (markets tick : ℕ) (history : List Event) → AreNamed (runs 
 
 -- the name that a report tells as used up: that of a New, a Cancel or a Replace that was accepted
 abbrev pub used_by : ℕ → Kind → List Name
-used_by member (Accepted view) = (member, view.id) ∷ []
-used_by member (Traded view quantity price) = []
-used_by member (Canceled view orig) = option_map_or (λ by. (member, view.id) ∷ []) orig []
-used_by member (Replaced view orig) = (member, view.id) ∷ []
-used_by member (Rejected id side quantity rule) = []
-used_by member (Status view) = []
-used_by member (Unknown id side) = []
-used_by member (Refused id orig first state answer rule) = []
+used_by member (OrderReport view Accepted) = (member, view.id) ∷ []
+used_by member (OrderReport view (Canceled (Some orig))) = (member, view.id) ∷ []
+used_by member (OrderReport view (Replaced orig)) = (member, view.id) ∷ []
+used_by member _ = []
 
 -- the names that reports tell as used up, in their order
 abbrev pub names_used_by : List Report → List Name

@@ -1,22 +1,17 @@
 -- What the reports of a history tell of each order.
 use Rattle.std.specs.Prelude.{◌≡◌, ℕ, ◌==◌, if◌then◌else◌, List, slice_get, Some, sum_by}
 use Rattle.venue_words.specs.declared.command.Event.{Event}
+use Rattle.venue_words.specs.declared.report.Execution.TheVariants.{Traded}
 use Rattle.venue_words.specs.declared.report.Kind.{Kind}
-use Rattle.venue_words.specs.declared.report.Kind.TheVariants.{Accepted, Rejected, Traded, Canceled, Replaced, Status, Unknown, Refused}
+use Rattle.venue_words.specs.declared.report.Kind.TheVariants.{Order as OrderReport}
 use Rattle.venue_words.specs.declared.report.Report.{Report}
 use Rattle.eager_meaning.specs.declared.order.Order.{Order}
 use Rattle.eager_meaning.specs.Step.{IsNumbered, runs}
 
 -- the shares that a report tells as traded by the order whose New is the event with this number
 abbrev pub shares_of_order : ℕ → Kind → ℕ
-shares_of_order first (Accepted view) = 0
-shares_of_order first (Traded view quantity price) = if view.first == first then quantity else 0
-shares_of_order first (Canceled view orig) = 0
-shares_of_order first (Replaced view orig) = 0
-shares_of_order first (Rejected id code quantity rule) = 0
-shares_of_order first (Status view) = 0
-shares_of_order first (Unknown id code) = 0
-shares_of_order first (Refused id orig event state answer rule) = 0
+shares_of_order first (OrderReport view (Traded quantity price)) = if view.first == first then quantity else 0
+shares_of_order first _ = 0
 
 -- all shares that the order traded, by the reports
 abbrev pub shares_told_of : ℕ → List Report → ℕ

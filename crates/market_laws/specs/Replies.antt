@@ -5,8 +5,9 @@ use Rattle.venue_words.specs.declared.command.Command.TheVariants.{New}
 use Rattle.venue_words.specs.declared.command.Event.{Event}
 use Rattle.venue_words.specs.declared.command.Rule.{Rule}
 use Rattle.venue_words.specs.declared.command.Terms.{Terms}
+use Rattle.venue_words.specs.declared.report.Execution.TheVariants.{Accepted}
 use Rattle.venue_words.specs.declared.report.Kind.{Kind}
-use Rattle.venue_words.specs.declared.report.Kind.TheVariants.{Accepted, Rejected, Traded, Canceled, Replaced, Status, Unknown, Refused}
+use Rattle.venue_words.specs.declared.report.Kind.TheVariants.{Order, Rejected}
 use Rattle.venue_words.specs.declared.report.Report.{Report}
 use Rattle.venue_words.specs.declared.report.View.{View}
 use Rattle.eager_meaning.specs.State.{State}
@@ -41,14 +42,9 @@ ReportsAreInPlace =
 
 -- whether a report acknowledges or rejects a New
 abbrev pub answers_new : Kind → Bool
-answers_new (Accepted view) = true
-answers_new (Traded view quantity price) = false
-answers_new (Canceled view orig) = false
-answers_new (Replaced view orig) = false
+answers_new (Order view Accepted) = true
 answers_new (Rejected id side quantity rule) = true
-answers_new (Status view) = false
-answers_new (Unknown id side) = false
-answers_new (Refused id orig first state answer rule) = false
+answers_new _ = false
 
 -- the first rule that a New breaks in this state, or none
 abbrev pub rule_broken : ℕ → State → ℕ → List ℕ → Terms → Option Rule
@@ -57,7 +53,7 @@ rule_broken tick s member id terms = verdict (New member id terms) (known_of tic
 -- the answer to a New at an event: a rejection by the rule that it breaks, or an acknowledgement of its own id
 abbrev pub IsAnswer : ℕ → List ℕ → Terms → Option Rule → Kind → Type 0
 IsAnswer event id terms (Some rule) kind = kind ≡ Rejected id terms.side terms.quantity rule
-IsAnswer event id terms None kind = (view : View) × (kind ≡ Accepted view) × (view.id ≡ id) × (view.first ≡ event)
+IsAnswer event id terms None kind = (view : View) × (kind ≡ Order view Accepted) × (view.id ≡ id) × (view.first ≡ event)
 
 -- the first report, at place 1 and to the member, answers; none of the others is an answer to a New
 pub record IsAnsweredOnce (event member : ℕ) (id : List ℕ) (terms : Terms) (broken : Option Rule) (told : List Report) : Type 0 where

@@ -5,8 +5,9 @@ use Rattle.venue_words.specs.declared.command.Event.{Event}
 use Rattle.venue_words.specs.declared.price.Best.{Best}
 use Rattle.venue_words.specs.declared.price.Side.{Side}
 use Rattle.venue_words.specs.declared.price.Side.TheVariants.{Buy, Sell}
+use Rattle.venue_words.specs.declared.report.Execution.TheVariants.{Traded}
 use Rattle.venue_words.specs.declared.report.Kind.{Kind}
-use Rattle.venue_words.specs.declared.report.Kind.TheVariants.{Accepted, Rejected, Traded, Canceled, Replaced, Status, Unknown, Refused}
+use Rattle.venue_words.specs.declared.report.Kind.TheVariants.{Order}
 use Rattle.venue_words.specs.declared.report.Report.{Report}
 use Rattle.venue_words.specs.Best.{best_of}
 use Rattle.venue_words.specs.Key.{side_number}
@@ -21,14 +22,8 @@ shares_if side other shares = if side_number side == side_number other then shar
 
 -- the shares that a report tells as traded by an order of a side
 abbrev pub shares_on : Side → Kind → ℕ
-shares_on side (Accepted view) = 0
-shares_on side (Traded view quantity price) = shares_if side view.side quantity
-shares_on side (Canceled view orig) = 0
-shares_on side (Replaced view orig) = 0
-shares_on side (Rejected id code quantity rule) = 0
-shares_on side (Status view) = 0
-shares_on side (Unknown id code) = 0
-shares_on side (Refused id orig first state answer rule) = 0
+shares_on side (Order view (Traded quantity price)) = shares_if side view.side quantity
+shares_on side _ = 0
 
 -- all shares that orders of a side traded, by the reports
 abbrev pub shares_traded : Side → List Report → ℕ
@@ -56,14 +51,8 @@ pub record IsWithinQuote (best : Best) (price : ℕ) : Type 0 where
 
 -- a report of a trade tells a price within the quote
 abbrev pub IsPricedWithin : Best → Kind → Type 0
-IsPricedWithin best (Accepted view) = Unit {0}
-IsPricedWithin best (Traded view quantity price) = IsWithinQuote best price
-IsPricedWithin best (Canceled view orig) = Unit {0}
-IsPricedWithin best (Replaced view orig) = Unit {0}
-IsPricedWithin best (Rejected id code quantity rule) = Unit {0}
-IsPricedWithin best (Status view) = Unit {0}
-IsPricedWithin best (Unknown id code) = Unit {0}
-IsPricedWithin best (Refused id orig first state answer rule) = Unit {0}
+IsPricedWithin best (Order view (Traded quantity price)) = IsWithinQuote best price
+IsPricedWithin best _ = Unit {0}
 
 -- for every history and one more event: each trade that it tells is priced within the national quote after the event
 abbrev pub TradesAreWithinQuote : Type 0

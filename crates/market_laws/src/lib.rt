@@ -18,6 +18,3 @@ pub use orders::{
 };
 pub use replies::{new_is_answered_once, reports_are_few, reports_are_in_place};
 pub use trades::{bought_shares_are_sold, trades_are_within_quote};
-
-#[cfg(test)]
-mod tests;

@@ -1,5 +1,4 @@
 pub mod AfterTrades
-pub mod Alone
 pub mod Changes
 pub mod Enters
 pub mod Fewer

@@ -19,6 +19,3 @@ pub use narrow::NarrowSide;
 pub use rechecking::recheck;
 pub use scratch::{Scratch, reserve, walk};
 pub use sides::Sides;
-
-#[cfg(test)]
-mod tests;

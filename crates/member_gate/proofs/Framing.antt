@@ -1,7 +1,7 @@
 -- What the framer's answers say, and how the replies of a frame are added.
 use Rattle.std.proofs.Common.{◌≡◌, ℕ, ◌+◌, ◌<◌, ◌≤◌, ℤ, List, [], ◌∷◌, ◌++◌, length, drop, Some, sym, ◌∙◌, ap, arith, append_assoc, length-drop}
 use Rattle.std.specs.Option.{option_to_list}
-use Rattle.fix_fields.specs.declared.field.TheConstants.{LONGEST_FRAME}
+use Rattle.venue_words.specs.declared.limits.TheConstants.{MAX_FRAME_BYTES}
 use Rattle.fix_frames.specs.FoundLaws.{whole_found}
 use Rattle.fix_frames.specs.ReadingLaws.{lies_in}
 use Rattle.fix_frames.specs.Streams.{Stream, HasGiven}
@@ -13,7 +13,7 @@ use Rattle.member_gate.specs.Answering.{answer}
 use Rattle.member_gate.specs.Working.{handed_out, work_of_frame}
 
 -- a frame that was given is not too long
-pub given_short : (old new : Stream) (frame : List ℕ) → HasGiven old new frame → length frame ≤ LONGEST_FRAME
+pub given_short : (old new : Stream) (frame : List ℕ) → HasGiven old new frame → length frame ≤ MAX_FRAME_BYTES
 given_short old new frame h =
     let l = lies_in (old.kept ++ []) h.0 frame (h.2 []) in
     (whole_found (drop h.0 (old.kept ++ [])) (length frame) l.whole).1

@@ -1,8 +1,10 @@
 pub mod Framing
+pub mod Fresh
 pub mod Joining
 pub mod Looking
 pub mod Over
 pub mod Sending
+pub mod Standing
 pub mod Taking
 pub mod Underway
 pub mod PlainFloor

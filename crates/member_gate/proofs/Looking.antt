@@ -1,5 +1,5 @@
 -- Symbol by symbol a member's reports are gathered.
-use Rattle.std.proofs.Common.{◌≡◌, ◌≢◌, ℕ, ◌+◌, ◌-◌, ◌<◌, ◌≤◌, max, List, [], ◌∷◌, ◌++◌, length, take, drop, get_or, Option, refl, sym, ◌∙◌, ap, subst, arith, append_assoc, length-append}
+use Rattle.std.proofs.Common.{◌≡◌, ◌≢◌, ℕ, ◌+◌, ◌-◌, ◌<◌, ◌≤◌, max, List, [], ◌∷◌, ◌++◌, length, take, drop, get_or, refl, sym, ◌∙◌, ap, subst, arith, append_assoc, length-append}
 use Rattle.std.proofs.lemmas.List.{append-nil, take_more, get_or_append_left, get_or-append_right, get_or-drop, length-take-le}
 use Rattle.std.proofs.lemmas.Option.{unwrap_or-slice_get}
 use Rattle.std.proofs.Math.Seq.{get_or-append_seam, take-length}
@@ -11,7 +11,7 @@ use Rattle.venue_words.specs.Floors.{SymbolView}
 use Rattle.session_core.specs.declared.message.Message.{Message}
 use Rattle.member_gate.specs.Answering.{name_at}
 use Rattle.member_gate.specs.Submitting.{Waited}
-use Rattle.member_gate.specs.Reporting.{cursor_at, messages_at, messages_from, messages_past, MovedOn}
+use Rattle.member_gate.specs.Reporting.{cursor_at, messages_at, messages_from, messages_past, MovedOn, IsAskedForNews}
 use Rattle.member_gate.proofs.Taking.{waited_self}
 
 messages_same : (config : Config) (member : ℕ) (cursors : List ℕ) (before after : ℕ → List Report) (number : ℕ) (symbols : List (List ℕ)) → ((k : ℕ) → k < number + length symbols → after k ≡ before k)
@@ -33,8 +33,8 @@ messages_snoc config member cursors reports number place (first ∷ symbols) sym
     ap (λ (ms : List Message). front ++ ms) (messages_snoc config member cursors reports (number + 1) place symbols symbol (omega arith))
     ∙ sym (append_assoc front (messages_from config member cursors reports (number + 1) symbols) (messages_at config member symbol (cursor_at cursors place) (reports place)))
 
--- `rise` is what each look does to the turns that are told
-module _ {F : Type 0} (at : F → ℕ → SymbolView) (config : Config) (member : ℕ) (cursors : List ℕ) (rise : Option ℕ → Option ℕ → Type 0) where
+-- `asked` is what each look does to its symbol
+module _ {F : Type 0} (at : F → ℕ → SymbolView) (config : Config) (member : ℕ) (cursors : List ℕ) (asked : ℕ → SymbolView → SymbolView → Type 0) where
   abbrev reports_at : F → ℕ → List Report
   reports_at floor symbol = (at floor symbol).reports
 
@@ -45,7 +45,7 @@ module _ {F : Type 0} (at : F → ℕ → SymbolView) (config : Config) (member 
     pub fronts_are : (symbol : ℕ) → symbol < count → get_or fronts symbol 0 ≡ max (cursor_at cursors symbol) (length (reports_at now symbol))
     pub waited : (symbol : ℕ) → Waited (at before symbol) (at now symbol)
     pub ahead : (symbol : ℕ) → count ≤ symbol → at now symbol ≡ at before symbol
-    pub turns : (symbol : ℕ) → symbol < count → rise (at before symbol).turns (at now symbol).turns
+    pub each : (symbol : ℕ) → symbol < count → asked symbol (at before symbol) (at now symbol)
 
   pub looked_none : (floor : F) → Looked floor 0 floor [] []
   looked_none floor = record {
@@ -54,7 +54,7 @@ module _ {F : Type 0} (at : F → ℕ → SymbolView) (config : Config) (member 
     fronts_are = λ symbol h. absurd (omega arith);
     waited = λ symbol. waited_self (at floor symbol);
     ahead = λ symbol h. refl;
-    turns = λ symbol h. absurd (omega arith);
+    each = λ symbol h. absurd (omega arith);
   }
 
   -- one look, at the next symbol
@@ -71,7 +71,7 @@ module _ {F : Type 0} (at : F → ℕ → SymbolView) (config : Config) (member 
 
   pub looked_more : (before : F) (count : ℕ) (now next : F) (messages more : List Message) (fronts further : List ℕ) (front : ℕ)
       → Looked before count now messages fronts → count < length config.symbols
-      → ((other : ℕ) → other ≢ count → at next other ≡ at now other) → Waited (at now count) (at next count) → rise (at now count).turns (at next count).turns
+      → ((other : ℕ) → other ≢ count → at next other ≡ at now other) → Waited (at now count) (at next count) → asked count (at now count) (at next count)
       → more ≡ messages ++ messages_at config member (name_at config.symbols count) (cursor_at cursors count) (reports_at next count)
       → front ≡ length (reports_at next count) → further ≡ fronts ++ max (cursor_at cursors count) front ∷ []
       → Looked before (count + 1) next more further
@@ -97,10 +97,10 @@ module _ {F : Type 0} (at : F → ℕ → SymbolView) (config : Config) (member 
             ∙ ap (λ (v : SymbolView). max (cursor_at cursors symbol) (length v.reports)) (sym (others symbol not)));
         waited = waited_on before now next count l.waited l.ahead others waited;
         ahead = ahead_on before now next count l.ahead others;
-        turns = λ symbol h.
+        each = λ symbol h.
             dite (ℕ_discrete symbol count)
-            (λ is. subst (λ (k : ℕ). rise (at before k).turns (at next k).turns) (sym is) (subst (λ (v : SymbolView). rise v.turns (at next count).turns) (l.ahead count (omega arith)) rose))
-            (λ not. subst (λ (v : SymbolView). rise (at before symbol).turns v.turns) (sym (others symbol not)) (l.turns symbol (omega arith)));
+            (λ is. subst (λ (k : ℕ). asked k (at before k) (at next k)) (sym is) (subst (λ (v : SymbolView). asked count v (at next count)) (l.ahead count (omega arith)) rose))
+            (λ not. subst (λ (v : SymbolView). asked symbol (at before symbol) v) (sym (others symbol not)) (l.each symbol (omega arith)));
       }
 
   pub moved_on : (before now : F) (messages : List Message) (fronts all : List ℕ) → Looked before (length config.symbols) now messages fronts → all ≡ fronts ++ drop (length config.symbols) cursors
@@ -116,3 +116,8 @@ module _ {F : Type 0} (at : F → ℕ → SymbolView) (config : Config) (member 
 
   pub all_messages : (before now : F) (messages : List Message) (fronts : List ℕ) → Looked before (length config.symbols) now messages fronts → messages ≡ messages_past config member cursors (reports_at now)
   all_messages before now messages fronts l = l.messages_are ∙ ap (messages_from config member cursors (reports_at now) 0) (take-length config.symbols)
+
+-- ---- where only symbols with news are asked for
+
+abbrev pub for_news : List ℕ → ℕ → SymbolView → SymbolView → Type 0
+for_news cursors symbol before after = IsAskedForNews (cursor_at cursors symbol) before after

@@ -1,13 +1,11 @@
--- To a session that is over no frame does anything, and to one that is not up no tick does.
-use Rattle.std.proofs.Common.{◌≡◌, ◌↔◌, IsTrue, ℕ, ℤ, Bool, true, false, cond, List, [], ◌∷◌, Some, refl, ap, ◌∙◌}
+-- To a session that is over no frame does anything.
+use Rattle.std.proofs.Common.{◌≡◌, ℕ, ℤ, true, false, cond, List, [], ◌∷◌, ◌++◌, refl, ap, ◌∙◌}
 use Rattle.fix_frames.specs.declared.reading.Reading.{Reading}
+use Rattle.fix_frames.specs.Reading.{reading_of}
 use Rattle.venue_words.specs.declared.config.Config.{Config}
-use Rattle.session_core.specs.declared.state.Phase.{Phase}
-use Rattle.session_core.specs.declared.state.Phase.TheVariants.{New, Up, Ended}
-use Rattle.session_core.specs.declared.state.EndCause.{EndCause}
-use Rattle.session_core.specs.State.{is_up, is_up_phase, is_over, cause_of}
-use Rattle.session_core.specs.Machine.{Machine, Outcome, IsOver, rests, on_frame, on_overlong, on_clock}
+use Rattle.session_core.specs.Machine.{Machine, Outcome, IsOver, rests, on_frame, on_overlong}
 use Rattle.member_gate.specs.Answering.{Work, idle, turned}
+use Rattle.member_gate.specs.Desks.{DeskView, work_of_piece}
 use Rattle.member_gate.specs.Working.{then_work, handed_out, work_of_frame, work_of_frames, work_at_limit, work_of_reading}
 
 frame_rests : (session : Machine) (frame : List ℕ) (moment : ℤ) → IsOver session → on_frame session frame moment ≡ rests session
@@ -17,30 +15,6 @@ frame_rests session frame moment over = rw over refl
 limit_rests : (session : Machine) (moment : ℤ) → IsOver session → on_overlong session moment ≡ rests session
 unfolding on_overlong
 limit_rests session moment over = rw over refl
-
-down : (answer up : Bool) → (IsTrue answer ↔ IsTrue up) → answer ≡ false → up ≡ false
-down answer true h e = absurd (let t : answer ≡ true = h.1 refl in cc)
-down answer false h e = refl
-
--- the clock of a session that is not up
-pub clock_rests : (session : Machine) (moment : ℤ) (answer : Bool) → (IsTrue answer ↔ IsTrue (is_up session.state)) → answer ≡ false → on_clock session moment ≡ rests session
-unfolding on_clock
-clock_rests session moment answer h e = let e = down answer (is_up session.state) h e in rw e refl
-
-over_down : (phase : Phase) → is_over phase ≡ true → is_up_phase phase ≡ false
-over_down New e = absurd (cc)
-over_down Up e = absurd (cc)
-over_down (Ended cause) e = refl
-
--- a connection that ended with a cause
-pub over_by_cause : (phase : Phase) (cause : EndCause) → cause_of phase ≡ Some cause → is_over phase ≡ true
-over_by_cause New cause e = absurd (cc)
-over_by_cause Up cause e = absurd (cc)
-over_by_cause (Ended other) cause e = refl
-
-pub clock_over : (session : Machine) (moment : ℤ) → IsOver session → on_clock session moment ≡ rests session
-unfolding on_clock
-clock_over session moment over = let e = over_down session.state.phase over in rw e refl
 
 over_frame : (config : Config) (member : ℕ) (moment : ℤ) (session : Machine) (frame : List ℕ) → IsOver session → work_of_frame config member moment session frame ≡ idle session
 unfolding work_of_frame
@@ -60,3 +34,7 @@ over_reading config member moment session reading over =
     ap (λ (w : Work). cond reading.too_long (then_work w (work_at_limit moment w.session)) w) (over_frames config member moment session reading.frames over)
     ∙ ap (λ (w : Work). cond reading.too_long (then_work (idle session) w) (idle session)) at_limit
     ∙ (elim reading.too_long as (λ b. cond b (idle session) (idle session) ≡ idle session) [ true ↦ refl | false ↦ refl ])
+
+-- so no piece does
+pub over_piece : (config : Config) (moment : ℤ) (desk : DeskView) (piece : List ℕ) → IsOver desk.session → work_of_piece config moment desk piece ≡ idle desk.session
+over_piece config moment desk piece over = over_reading config desk.member moment desk.session (reading_of (desk.unread ++ piece)) over

@@ -33,16 +33,20 @@ two_names : IsDistinct bytes_eq (a ∷ b ∷ [])
 unfolding IsDistinct
 two_names = ((refl, tt), (tt, tt))
 
+two_symbols : IsDistinct bytes_eq (codes "X" ∷ codes "Y" ∷ [])
+unfolding IsDistinct
+two_symbols = ((refl, tt), (tt, tt))
+
 pub example_is_config : IsConfig example_config
 example_is_config = record {
   members = record { lengths = ((lit≤ tt, lit≤ tt), ((lit≤ tt, lit≤ tt), tt)); distinct = two_names };
   markets = record { lengths = ((lit≤ tt, lit≤ tt), tt); distinct = one_name (codes "N") };
-  symbols = record { lengths = ((lit≤ tt, lit≤ tt), tt); distinct = one_name (codes "X") };
+  symbols = record { lengths = ((lit≤ tt, lit≤ tt), ((lit≤ tt, lit≤ tt), tt)); distinct = two_symbols };
   few_members = lit≤ tt;
   few_markets = lit≤ tt;
   few_symbols = lit≤ tt;
   limit_each = refl;
-  limits = ((lit≤ tt, lit≤ tt), tt);
+  limits = ((lit≤ tt, lit≤ tt), ((lit≤ tt, lit≤ tt), tt));
   tick_each = refl;
-  ticks = (inl refl, tt);
+  ticks = (inl refl, (inl refl, tt));
 }

@@ -1,6 +1,7 @@
+pub mod Alike
+pub mod AlikeLaws
 pub mod Answering
 pub mod Desks
-pub mod Ends
 pub mod Laws
 pub mod PlainFloors
 pub mod QuietLaws

@@ -2,6 +2,7 @@
 use Rattle.std.specs.Prelude.{◌≡◌, ℕ, ◌+◌, ◌<◌, ◌≤◌, max, List, [], ◌∷◌, ◌++◌, map, length, slice_index}
 use Rattle.venue_words.specs.declared.config.Config.{Config}
 use Rattle.venue_words.specs.declared.report.Report.{Report}
+use Rattle.venue_words.specs.Floors.{SymbolView, TurnsRose}
 use Rattle.venue_words.specs.Journals.{reports_of}
 use Rattle.session_core.specs.declared.message.Message.{Message}
 use Rattle.member_gate.specs.Answering.{name_at, message_of}
@@ -41,3 +42,8 @@ pub record ArePast (fronts cursors : List ℕ) : Type 0 where
 pub record AreFronts (symbols : ℕ) (reports : ℕ → List Report) (fronts : List ℕ) : Type 0 where
   pub each : length fronts ≡ symbols
   pub read : (symbol : ℕ) → symbol < symbols → slice_index fronts symbol ≡ length (reports symbol)
+
+-- a symbol was asked for its reports exactly where it has some past the cursor
+pub record IsAskedForNews (cursor : ℕ) (before after : SymbolView) : Type 0 where
+  pub unasked : length before.reports ≤ cursor → after ≡ before
+  pub rose : cursor < length before.reports → TurnsRose before.turns after.turns

@@ -63,13 +63,14 @@ pub record TookNone {F : Type 0} (at : F → ℕ → SymbolView) (step_limit : F
   pub steps : TookNoSteps at step_limit mark feed moment left before after
   pub full : IsFullNext at mark refusal left after.0
 
--- the work on a stream stopped at a refusal: some frames were worked, and the floor took their commands; the session gave
--- up over the next frame, and no further command was taken
-pub record Stopped {F : Type 0} (at : F → ℕ → SymbolView) (step_limit : FloorMark → ℕ → List Event → Event → Option ℕ) (mark : FloorMark) (config : Config) (member feed : ℕ) (moment : ℤ) (session : Machine) (frames : List (List ℕ)) (refusal : DeskRefusal) (last : Machine) (before after : F × ℕ) : Type 0 where
+-- the work on a stream stopped at a refusal: some frames were worked, and the floor took their commands, so many; the
+-- session gave up over the next frame, and no further command was taken
+pub record Stopped {F : Type 0} (at : F → ℕ → SymbolView) (step_limit : FloorMark → ℕ → List Event → Event → Option ℕ) (mark : FloorMark) (config : Config) (member feed : ℕ) (moment : ℤ) (session : Machine) (frames : List (List ℕ)) (refusal : DeskRefusal) (last : Machine) (submitted : ℕ) (before after : F × ℕ) : Type 0 where
   pub worked : List (List ℕ)
   pub left : List (List ℕ)
   pub frames_are : frames ≡ worked ++ left
   pub between : F × ℕ
   pub took : TookAll at step_limit mark feed moment (work_of_frames config member moment session worked).submissions before between
+  pub count : submitted ≡ length (work_of_frames config member moment session worked).submissions
   pub gave_up : GaveUp moment (work_of_frames config member moment session worked).session left last
   pub rest : TookNone at step_limit mark feed moment refusal (work_of_frames config member moment (work_of_frames config member moment session worked).session left).submissions between after

@@ -1,8 +1,8 @@
 //! What a message that the session hands out gets.
-ghost use Rattle.std.specs.Prelude.{◌≡◌, ◌<◌, ◌∷◌, [], length, IfOk, OnOk, OnErr, IfErr};
+ghost use Rattle.std.specs.Prelude.{◌≡◌, ◌+◌, ◌<◌, ◌∷◌, [], length, IfOk, OnOk, OnErr, IfErr};
 ghost use Rattle.std.specs.Option.{option_to_list};
 ghost use Rattle.venue_words.specs.Conditions.{IsConfig};
-ghost use Rattle.venue_words.specs.Floors.{setup_of};
+ghost use Rattle.venue_words.specs.Floors.{IsSetUpFor};
 ghost use Rattle.session_core.specs.Lookup.{text_in};
 ghost use Rattle.session_core.specs.Machine.{IsUp, on_send_one};
 ghost use Rattle.member_gate.specs.Answering.{answer, answer_stray, business_body, name_at};
@@ -65,8 +65,8 @@ fn answer_stray(
     session.send(kind(report), &body, origin.moment)
 }
 
-/// Works a message that the session handed out: it is answered at once, or a command goes to a book. After a refusal
-/// the session is as it was.
+/// Works a message that the session handed out: it is answered at once, or, where no answer comes, a command goes to a
+/// book. After a refusal the session is as it was.
 #[tactic(auto, unfolding(crate::specs::Answering::answer))]
 pub fn answer<F: Floor, L: Ledger>(
     alloc: Global,
@@ -78,12 +78,14 @@ pub fn answer<F: Floor, L: Ledger>(
 ) -> Result<Option<Bytes>, DeskRefusal>
     requires up { IsUp session.old }
     requires config { IsConfig origin.config.now }
-    requires setup { (F.mark floor.old).setup ≡ setup_of origin.config.now }
+    requires setup { IsSetUpFor origin.config.now (F.mark floor.old).setup }
     requires member { origin.member < length origin.config.now.members }
     ensures session { OnOk result (session.new
         ≡ (answer origin.entry.config.now origin.entry.member origin.entry.moment session.old request.now).session) }
     ensures reply { IfOk result (λ reply. option_to_list reply
         ≡ (answer origin.entry.config.now origin.entry.member origin.entry.moment session.old request.now).replies) }
+    ensures one { IfOk result (λ reply. length (option_to_list reply) + length (answer origin.entry.config.now
+        origin.entry.member origin.entry.moment session.old request.now).submissions ≡ 1) }
     ensures err { OnErr result (session.new ≡ session.old) }
     ensures mark { F.mark floor.new ≡ F.mark floor.old }
     ensures took { OnOk result (TookAll F.at F.step_limit (F.mark floor.old) origin.entry.feed origin.entry.moment
@@ -96,7 +98,7 @@ pub fn answer<F: Floor, L: Ledger>(
 {
     match read_order(alloc, request, origin.member, origin.config, origin.moment) {
         Ok(Decoded::Book { symbol, command }) => {
-            submit(floor, origin, symbol, command, steps)?;
+            submit(floor, origin, symbol, &command, steps)?;
             Ok(None)
         }
         Ok(Decoded::Stray { report }) => {

@@ -1,38 +1,27 @@
 //! The desk of a member.
-ghost use Rattle.std.specs.Prelude.{◌≡◌, ◌≤◌, ◌<◌, ◌++◌, ◌⊎◌, ℕ, true, false, length, IfOk, OnOk, OnErr, IfErr, IsOk};
+ghost use Rattle.std.specs.Prelude.{◌≡◌, ◌≤◌, ◌<◌, ◌++◌, ◌⊎◌, ℕ, [], true, false, length, IfOk, OnOk, OnErr, IfErr, IsOk};
 ghost use Rattle.venue_words.specs.Conditions.{IsConfig};
-ghost use Rattle.venue_words.specs.Floors.{setup_of, TurnsRose};
+ghost use Rattle.venue_words.specs.Floors.{IsSetUpFor, TurnsRose};
 ghost use Rattle.session_core.specs.Machine.{IsUp, IsOver, sending, on_clock, given_up};
 ghost use Rattle.session_core.specs.Runs.{send_if_up};
 ghost use Rattle.fix_frames.specs.Reading.{reading_of};
-ghost use Rattle.member_gate.specs.Ends.{silence};
 ghost use Rattle.member_gate.specs.Submitting.{TookAll, Stopped, Waited};
-ghost use Rattle.member_gate.specs.Working.{AreUnread};
-ghost use Rattle.member_gate.specs.Reporting.{messages_past, AreFronts, ArePast, MovedOn};
+ghost use Rattle.member_gate.specs.Working.{AreUnread, work_of_reading};
+ghost use Rattle.member_gate.specs.Reporting.{cursor_at, messages_past, AreFronts, ArePast, MovedOn};
 
 use crate::names::name_at;
 use crate::origin::Origin;
 use crate::refusal::DeskRefusal;
 use crate::reporting::{are_past, look_all, look_past};
-use crate::working::{turn_of, work_piece};
+use crate::worked::Worked;
+use crate::working::work_frames;
 use fix_frames::Framer;
 use session_core::{Session, Turn};
 use std::alloc::Global;
 use std::marker::Model;
 use std::mem::swap;
 use std::sync::ledger::Ledger;
-use venue_words::{Bytes, Config, Floor, Items, NoMemory, Steps};
-
-/// The turn of a connection that ended at a refusal: nothing is sent, and the end has no cause.
-fn silence(alloc: Global) -> Turn
-    ensures { result ≡ silence }
-{
-    Turn {
-        replies: Items(Vec::new(alloc)),
-        request: None,
-        ended: None,
-    }
-}
+use venue_words::{Bytes, Config, Floor, NoMemory, Steps};
 
 /// The desk of a member: his session, the stream of bytes of his connection, and for each symbol how many of its
 /// reports he has been sent or passed over. Session and cursors outlive a connection.
@@ -41,18 +30,16 @@ pub struct Desk {
     alloc: Global,
     member: u32,
     session: Session,
-    /// Whether the connection ended at a refusal, which the session does not know of.
-    refused: bool,
     framer: Framer,
     /// By symbol, how many of its reports were gone through; 0 where there is none.
     cursors: Vec<u32>,
     /// Room for the next cursors.
     fronts: Vec<u32>,
+    /// How many commands the last piece submitted.
+    submitted: u32,
 }
 
 impl Model for Desk {
-    ghost use Rattle.std.specs.Prelude.{cond};
-    ghost use Rattle.session_core.specs.Machine.{given_up};
     ghost use Rattle.member_gate.specs.Desks.{DeskView};
 
     ghost Value = { DeskView };
@@ -60,9 +47,10 @@ impl Model for Desk {
     ghost view = { λ d.
         record {
           member = d.member;
-          session = cond d.refused (given_up d.session) d.session;
+          session = d.session;
           unread = d.framer.kept;
           cursors = d.cursors.items;
+          submitted = d.submitted;
         } };
 }
 
@@ -79,10 +67,10 @@ impl Desk {
             alloc,
             member,
             session: Session::new(alloc, name),
-            refused: false,
             framer: Framer::new(alloc),
             cursors: Vec::new(alloc),
             fronts: Vec::new(alloc),
+            submitted: 0,
         })
     }
 
@@ -92,8 +80,53 @@ impl Desk {
         ensures { self.new ≡ connected_desk self.old }
     {
         self.session.open();
-        self.refused = false;
         self.framer = Framer::new(self.alloc);
+    }
+
+    /// Feeds a piece, and works all frames that the stream has then.
+    fn work_piece<F: Floor, L: Ledger>(
+        &mut self,
+        floor: &mut F,
+        origin: Origin<'_>,
+        piece: &[u8],
+        worked: &mut Worked,
+        steps: &mut Steps<L>,
+    ) -> Result<(), DeskRefusal>
+        requires config { IsConfig origin.config.now }
+        requires setup { IsSetUpFor origin.config.now (F.mark floor.old).setup }
+        requires member { origin.member < length origin.config.now.members }
+        requires none { worked.old.submitted ≡ 0 }
+        ensures session { OnOk result (self.new.session ≡ (work_of_reading origin.entry.config.now origin.entry.member
+            origin.entry.moment self.old.session (reading_of (self.old.unread ++ piece.now))).session) }
+        ensures replies { OnOk result (worked.new.replies.items ≡ worked.old.replies.items
+            ++ (work_of_reading origin.entry.config.now origin.entry.member origin.entry.moment self.old.session
+            (reading_of (self.old.unread ++ piece.now))).replies) }
+        ensures count { OnOk result (worked.new.submitted ≡ length (work_of_reading origin.entry.config.now
+            origin.entry.member origin.entry.moment self.old.session
+            (reading_of (self.old.unread ++ piece.now))).submissions) }
+        ensures unread { OnOk result (AreUnread (self.old.unread ++ piece.now) self.new.unread) }
+        ensures mark { F.mark floor.new ≡ F.mark floor.old }
+        ensures took { OnOk result (TookAll F.at F.step_limit (F.mark floor.old) origin.entry.feed origin.entry.moment
+            (work_of_reading origin.entry.config.now origin.entry.member origin.entry.moment self.old.session
+            (reading_of (self.old.unread ++ piece.now))).submissions (floor.old, steps.old) (floor.new, steps.new)) }
+        ensures stopped { IfErr result (λ refusal. Stopped F.at F.step_limit (F.mark floor.old) origin.entry.config.now
+            origin.entry.member origin.entry.feed origin.entry.moment self.old.session
+            (reading_of (self.old.unread ++ piece.now)).frames refusal (given_up self.new.session) worked.new.submitted
+            (floor.old, steps.old) (floor.new, steps.new)) }
+        ensures member { self.new.member ≡ self.old.member }
+        ensures cursors { self.new.cursors ≡ self.old.cursors }
+    {
+        self.framer.feed(piece)?;
+        let alloc = self.alloc;
+        work_frames(
+            alloc,
+            &mut self.framer,
+            &mut self.session,
+            floor,
+            origin,
+            worked,
+            steps,
+        )
     }
 
     /// Works the next piece of the connection's bytes, at a moment in milliseconds since 1970-01-01 00:00 UTC: the frames
@@ -102,7 +135,8 @@ impl Desk {
     /// nothing is worked, and no byte is kept, until `open`.
     ///
     /// After a refusal the connection has ended without a cause, what was to be sent is lost, though its numbers may be
-    /// used, and commands already submitted stand.
+    /// used, and commands already submitted stand. A piece of more than 4,294,967,295 commands is refused as one that wants
+    /// memory.
     pub fn take<F: Floor, L: Ledger>(
         &mut self,
         floor: &mut F,
@@ -113,7 +147,7 @@ impl Desk {
         steps: &mut Steps<L>,
     ) -> Result<Turn, DeskRefusal>
         requires config { IsConfig config.now }
-        requires setup { (F.mark floor.old).setup ≡ setup_of config.now }
+        requires setup { IsSetUpFor config.now (F.mark floor.old).setup }
         requires member { self.old.member < length config.now.members }
 
         // What is sent, and the session behind it, are those of the piece's frames.
@@ -130,18 +164,27 @@ impl Desk {
             (work_of_piece config.now moment self.old piece.now).submissions
             (floor.old, steps.old) (floor.new, steps.new)) }
 
+        ensures submitted { OnOk result (self.new.submitted
+            ≡ length (work_of_piece config.now moment self.old piece.now).submissions) }
+
         // After a refusal the connection has ended, and the floor took the commands of the frames before.
         ensures stopped { IfErr result (λ refusal. Stopped F.at F.step_limit (F.mark floor.old) config.now self.old.member
             feed moment self.old.session (reading_of (self.old.unread ++ piece.now)).frames refusal self.new.session
-            (floor.old, steps.old) (floor.new, steps.new)) }
+            self.new.submitted (floor.old, steps.old) (floor.new, steps.new)) }
+
+        // A connection that has ended takes nothing more, and says again why it ended.
+        ensures over { IsOver self.old.session → IsOk result × (self.new ≡ record self.old { submitted = 0 }) }
+        ensures ended { IsOver self.old.session → IfOk result (λ turn. turn ≡ sending self.old.session []) }
+        ensures rests { IsOver self.old.session → (floor.new ≡ floor.old) × (steps.new ≡ steps.old) }
 
         // What stays.
         ensures member { self.new.member ≡ self.old.member }
         ensures cursors { self.new.cursors ≡ self.old.cursors }
         ensures mark { F.mark floor.new ≡ F.mark floor.old }
     {
-        if self.refused {
-            return Ok(silence(self.alloc));
+        self.submitted = 0;
+        if self.session.is_over() {
+            return Ok(self.session.sending(Vec::new(self.alloc)));
         }
         let origin = Origin {
             config,
@@ -149,23 +192,27 @@ impl Desk {
             feed,
             moment,
         };
-        let alloc = self.alloc;
-        let framer = &mut self.framer;
-        match work_piece(
-            alloc,
-            framer,
-            &mut self.session,
-            floor,
-            origin,
-            piece,
-            steps,
-        ) {
-            Ok(turn) => Ok(turn),
+        let mut worked = Worked {
+            replies: Vec::new(self.alloc),
+            submitted: 0,
+        };
+        let end = self.work_piece(floor, origin, piece, &mut worked, steps);
+        self.submitted = worked.submitted;
+        match end {
+            Ok(()) => Ok(self.session.sending(worked.replies)),
             Err(refusal) => {
-                self.refused = true;
+                self.session.give_up();
                 Err(refusal)
             }
         }
+    }
+
+    /// How many commands the last `take` submitted: 0 before the first. Who serves the member's link rings the others where
+    /// there are any.
+    pub fn submitted(&self) -> u32
+        ensures { result ≡ self.now.submitted }
+    {
+        self.submitted
     }
 
     /// Whether the session is up and some symbol has reports past its cursor, where `fronts` tells, by symbol in the
@@ -175,7 +222,7 @@ impl Desk {
         ensures past { result ≡ true → ArePast fronts.now self.now.cursors }
         ensures none { result ≡ false → IsUp self.now.session → ArePast fronts.now self.now.cursors → ⊥ }
     {
-        !self.refused && self.session.is_up() && are_past(fronts, &self.cursors)
+        self.session.is_up() && are_past(fronts, &self.cursors)
     }
 
     /// The member's reports past the cursors, framed with the session's next numbers, at a moment in milliseconds since
@@ -189,7 +236,7 @@ impl Desk {
         moment: i64,
     ) -> Result<Vec<Bytes>, NoMemory>
         requires config { IsConfig config.now }
-        requires setup { (F.mark floor.old).setup ≡ setup_of config.now }
+        requires setup { IsSetUpFor config.now (F.mark floor.old).setup }
         requires member { self.old.member < length config.now.members }
 
         // What is sent.
@@ -214,9 +261,10 @@ impl Desk {
         // What stays.
         ensures member { self.new.member ≡ self.old.member }
         ensures unread { self.new.unread ≡ self.old.unread }
+        ensures submitted { self.new.submitted ≡ self.old.submitted }
         ensures err { OnErr result (self.new ≡ self.old) }
     {
-        if self.refused || !self.session.is_up() {
+        if !self.session.is_up() {
             return Ok(Vec::new(self.alloc));
         }
         let mut messages = Vec::new(self.alloc);
@@ -245,7 +293,7 @@ impl Desk {
         moment: i64,
     ) -> Result<Vec<Bytes>, NoMemory>
         requires config { IsConfig config.now }
-        requires setup { (F.mark floor.old).setup ≡ setup_of config.now }
+        requires setup { IsSetUpFor config.now (F.mark floor.old).setup }
         requires member { self.old.member < length config.now.members }
         requires fronts { AreFronts (length config.now.symbols) (λ symbol. (F.at floor.old symbol).reports) fronts.now }
 
@@ -265,13 +313,19 @@ impl Desk {
         ensures waited { (symbol : ℕ) → Waited (F.at floor.old symbol) (F.at floor.new symbol) }
         ensures others { (symbol : ℕ) → length config.now.symbols ≤ symbol
             → F.at floor.new symbol ≡ F.at floor.old symbol }
+        ensures unasked { (symbol : ℕ) → length (F.at floor.old symbol).reports ≤ cursor_at self.old.cursors symbol
+            → F.at floor.new symbol ≡ F.at floor.old symbol }
+        ensures turns { OnOk result (IsUp self.old.session → (symbol : ℕ) → symbol < length config.now.symbols
+            → cursor_at self.old.cursors symbol < length (F.at floor.old symbol).reports
+            → TurnsRose (F.at floor.old symbol).turns (F.at floor.new symbol).turns) }
 
         // What stays.
         ensures member { self.new.member ≡ self.old.member }
         ensures unread { self.new.unread ≡ self.old.unread }
+        ensures submitted { self.new.submitted ≡ self.old.submitted }
         ensures err { OnErr result (self.new ≡ self.old) }
     {
-        if self.refused || !self.session.is_up() {
+        if !self.session.is_up() {
             return Ok(Vec::new(self.alloc));
         }
         let mut messages = Vec::new(self.alloc);
@@ -301,16 +355,7 @@ impl Desk {
         ensures up { OnErr result (IsUp self.old.session) }
         ensures err { OnErr result (self.new ≡ record self.old { session = given_up self.old.session }) }
     {
-        let alloc = self.alloc;
-        if self.refused {
-            return Ok(silence(alloc));
-        }
-        match self.session.tick(moment) {
-            Ok(turn) => Ok(turn_of(&mut self.session, moment, turn.replies.into_vec())),
-            Err(_) => {
-                self.refused = true;
-                Err(NoMemory)
-            }
-        }
+        let turn = self.session.tick(moment)?;
+        Ok(self.session.sending(turn.replies.into_vec()))
     }
 }

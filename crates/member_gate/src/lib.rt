@@ -5,15 +5,22 @@
 mod answering;
 pub mod business;
 mod desk;
+mod desk_cell;
+mod desk_table;
+mod desks;
 pub mod laws;
 mod names;
 mod origin;
 mod refusal;
 mod reporting;
 mod submitting;
+mod worked;
 mod working;
 
 pub use desk::Desk;
+pub use desk_cell::{CellDesks, DeskCell};
+pub use desk_table::DeskTable;
+pub use desks::{Desks, desks_of};
 pub use refusal::DeskRefusal;
 pub use session_core::{EndCause, Turn};
 

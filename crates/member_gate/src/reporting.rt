@@ -1,7 +1,7 @@
 //! A member's reports past the cursors of his desk.
 ghost use Rattle.std.specs.Prelude.{◌≡◌, ◌≢◌, ◌≤◌, ◌<◌, ◌++◌, ℕ, [], true, false, map, drop, length, IfOk, OnOk, OnErr};
 ghost use Rattle.venue_words.specs.Conditions.{IsConfig};
-ghost use Rattle.venue_words.specs.Floors.{setup_of, TurnsRose};
+ghost use Rattle.venue_words.specs.Floors.{IsSetUpFor, TurnsRose};
 ghost use Rattle.member_gate.specs.Answering.{name_at, message_of};
 ghost use Rattle.member_gate.specs.Submitting.{Waited};
 ghost use Rattle.member_gate.specs.Reporting.{cursor_at, messages_at, messages_past, AreFronts, ArePast, MovedOn};
@@ -89,7 +89,7 @@ fn look<F: Floor>(
     messages: &mut Vec<Message>,
 ) -> Result<u32, NoMemory>
     requires config { IsConfig config.now }
-    requires setup { (F.mark floor.old).setup ≡ setup_of config.now }
+    requires setup { IsSetUpFor config.now (F.mark floor.old).setup }
     requires member { member < length config.now.members }
     requires symbol { symbol < length config.now.symbols }
     ensures mark { F.mark floor.new ≡ F.mark floor.old }
@@ -119,7 +119,7 @@ pub fn look_all<F: Floor>(
     fronts: &mut Vec<u32>,
 ) -> Result<(), NoMemory>
     requires config { IsConfig config.now }
-    requires setup { (F.mark floor.old).setup ≡ setup_of config.now }
+    requires setup { IsSetUpFor config.now (F.mark floor.old).setup }
     requires member { member < length config.now.members }
     requires messages { messages.old.items ≡ [] }
     requires fronts { fronts.old.items ≡ [] }
@@ -156,13 +156,16 @@ fn look_where_past<F: Floor>(
     messages: &mut Vec<Message>,
 ) -> Result<u32, NoMemory>
     requires config { IsConfig config.now }
-    requires setup { (F.mark floor.old).setup ≡ setup_of config.now }
+    requires setup { IsSetUpFor config.now (F.mark floor.old).setup }
     requires member { member < length config.now.members }
     requires symbol { symbol < length config.now.symbols }
     requires known { known ≡ length (F.at floor.old symbol).reports }
     ensures mark { F.mark floor.new ≡ F.mark floor.old }
     ensures others { (other : ℕ) → other ≢ symbol → F.at floor.new other ≡ F.at floor.old other }
     ensures waited { Waited (F.at floor.old symbol) (F.at floor.new symbol) }
+    ensures unasked { length (F.at floor.old symbol).reports ≤ from → F.at floor.new symbol ≡ F.at floor.old symbol }
+    ensures turns { OnOk result (from < length (F.at floor.old symbol).reports
+        → TurnsRose (F.at floor.old symbol).turns (F.at floor.new symbol).turns) }
     ensures messages { OnOk result (messages.new.items ≡ messages.old.items
         ++ messages_at config.now member (name_at config.now.symbols symbol) from (F.at floor.new symbol).reports) }
     ensures front { IfOk result (λ front. front ≡ length (F.at floor.new symbol).reports) }
@@ -186,7 +189,7 @@ pub fn look_past<F: Floor>(
     fronts: &mut Vec<u32>,
 ) -> Result<(), NoMemory>
     requires config { IsConfig config.now }
-    requires setup { (F.mark floor.old).setup ≡ setup_of config.now }
+    requires setup { IsSetUpFor config.now (F.mark floor.old).setup }
     requires member { member < length config.now.members }
     requires known { AreFronts (length config.now.symbols) (λ symbol. (F.at floor.old symbol).reports) known.now }
     requires messages { messages.old.items ≡ [] }
@@ -194,6 +197,11 @@ pub fn look_past<F: Floor>(
     ensures mark { F.mark floor.new ≡ F.mark floor.old }
     ensures waited { (symbol : ℕ) → Waited (F.at floor.old symbol) (F.at floor.new symbol) }
     ensures others { (symbol : ℕ) → length config.now.symbols ≤ symbol → F.at floor.new symbol ≡ F.at floor.old symbol }
+    ensures unasked { (symbol : ℕ) → length (F.at floor.old symbol).reports ≤ cursor_at cursors.now symbol
+        → F.at floor.new symbol ≡ F.at floor.old symbol }
+    ensures turns { OnOk result ((symbol : ℕ) → symbol < length config.now.symbols
+        → cursor_at cursors.now symbol < length (F.at floor.old symbol).reports
+        → TurnsRose (F.at floor.old symbol).turns (F.at floor.new symbol).turns) }
     ensures messages { OnOk result (messages.new.items
         ≡ messages_past config.now member cursors.now (λ symbol. (F.at floor.new symbol).reports)) }
     ensures fronts { OnOk result (MovedOn (length config.now.symbols) (λ symbol. (F.at floor.new symbol).reports)

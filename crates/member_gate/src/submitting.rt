@@ -14,18 +14,18 @@ pub fn submit<F: Floor, L: Ledger>(
     floor: &mut F,
     origin: Origin<'_>,
     symbol: u32,
-    command: Command,
+    command: &Command,
     steps: &mut Steps<L>,
 ) -> Result<(), DeskRefusal>
     requires symbol { symbol < length (F.mark floor.old).setup.limits }
-    requires configured { is_configured (F.mark floor.old).setup command ≡ true }
-    requires limits { fits_limits command ≡ true }
+    requires configured { is_configured (F.mark floor.old).setup command.now ≡ true }
+    requires limits { fits_limits command.now ≡ true }
     ensures mark { F.mark floor.new ≡ F.mark floor.old }
     ensures took { OnOk result (TookAll F.at F.step_limit (F.mark floor.old) origin.entry.feed origin.entry.moment
-        (record { symbol = symbol; command = command } ∷ []) (floor.old, steps.old) (floor.new, steps.new)) }
+        (record { symbol = symbol; command = command.now } ∷ []) (floor.old, steps.old) (floor.new, steps.new)) }
     ensures none { IfErr result (λ refusal. TookNone F.at F.step_limit (F.mark floor.old)
         origin.entry.feed origin.entry.moment refusal
-        (record { symbol = symbol; command = command } ∷ []) (floor.old, steps.old) (floor.new, steps.new)) }
+        (record { symbol = symbol; command = command.now } ∷ []) (floor.old, steps.old) (floor.new, steps.new)) }
 {
     match floor.submit(symbol, origin.feed, origin.moment, command, steps) {
         Ok(_) => Ok(()),

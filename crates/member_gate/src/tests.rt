@@ -1,21 +1,23 @@
 //! Worked examples over a desk, with each piece cut in two at many places.
 ghost use Rattle.std.specs.Prelude.{◌≡◌, ◌<◌, length, IfOk};
 ghost use Rattle.venue_words.specs.Conditions.{IsConfig};
-ghost use Rattle.venue_words.specs.Floors.{setup_of};
+ghost use Rattle.venue_words.specs.Floors.{IsSetUpFor};
 ghost use Rattle.member_gate.specs.PlainFloors.{example_config};
 
 mod floor;
 mod sequences;
 
-use crate::{Desk, DeskRefusal};
+use crate::{CellDesks, Desk, DeskCell, DeskRefusal, DeskTable, Desks, desks_of};
 use fix_fields::moment;
 use fix_write::wrap;
 use floor::PlainFloor;
 use sequences::{
-    FULL, GAP_AND_TICK, NEXT_CONNECTION, NOT_TOO_LONG, REFUSALS, RESEND, TOO_LONG, TOO_LOW, UNKNOWN,
+    FULL, GAP_AND_TICK, LOGON, NEXT_CONNECTION, NOT_TOO_LONG, ORDER, REFUSALS, RESEND, TOO_LONG,
+    TOO_LOW, UNKNOWN,
 };
 use std::alloc::{AllocError, Global};
 use std::marker::Brand;
+use std::sync::Wait;
 use std::sync::ledger::{Blank, Ledger};
 use std::test::Fail;
 use venue_words::{Bytes, Command, Config, Floor, Items, NoMemory, Steps};
@@ -81,7 +83,7 @@ fn have_contents(alloc: Global, frames: &[Bytes], expected: Texts) -> Result<boo
     Ok(true)
 }
 
-/// The config of two members, one market and one symbol.
+/// The config of two members, one market and two symbols.
 fn config_of(alloc: Global) -> Result<Config, AllocError>
     ensures { IfOk result (λ config. config ≡ example_config) }
 {
@@ -90,9 +92,9 @@ fn config_of(alloc: Global) -> Result<Config, AllocError>
     Ok(Config {
         members: Items(vec![in alloc; a, b]?),
         markets: Items(vec![in alloc; Bytes::copy_of(alloc, b"N")?]?),
-        symbols: Items(vec![in alloc; Bytes::copy_of(alloc, b"X")?]?),
-        limits: Items(vec![in alloc; 4]?),
-        ticks: Items(vec![in alloc; 2]?),
+        symbols: Items(vec![in alloc; Bytes::copy_of(alloc, b"X")?, Bytes::copy_of(alloc, b"Y")?]?),
+        limits: Items(vec![in alloc; 4, 4]?),
+        ticks: Items(vec![in alloc; 2, 2]?),
         begin: 0,
     })
 }
@@ -107,7 +109,7 @@ fn take_cut<F: Floor, L: Ledger>(
     steps: &mut Steps<L>,
 ) -> Result<Vec<Bytes>, DeskRefusal>
     requires config { IsConfig config.now }
-    requires setup { (F.mark floor.old).setup ≡ setup_of config.now }
+    requires setup { IsSetUpFor config.now (F.mark floor.old).setup }
     requires member { desk.old.member < length config.now.members }
     ensures member { desk.new.member ≡ desk.old.member }
     ensures mark { F.mark floor.new ≡ F.mark floor.old }
@@ -136,7 +138,7 @@ fn receive<F: Floor, L: Ledger>(
     steps: &mut Steps<L>,
 ) -> Result<Vec<Bytes>, DeskRefusal>
     requires config { IsConfig config.now }
-    requires setup { (F.mark floor.old).setup ≡ setup_of config.now }
+    requires setup { IsSetUpFor config.now (F.mark floor.old).setup }
     requires member { desk.old.member < length config.now.members }
     requires symbols { 0 < length config.now.symbols }
     requires markets { 0 < length config.now.markets }
@@ -170,7 +172,7 @@ fn receive<F: Floor, L: Ledger>(
                 bid: Some(1000),
                 offer: Some(1001),
             };
-            match floor.submit(0, 9, start(), command, steps) {
+            match floor.submit(0, 9, start(), &command, steps) {
                 Ok(_) => Ok(Vec::new(alloc)),
                 Err(_) => Err(DeskRefusal::NoMemory),
             }
@@ -194,7 +196,7 @@ fn first_other<F: Floor, L: Ledger>(
     blank: Blank,
 ) -> Result<Option<usize>, DeskRefusal>
     requires config { IsConfig config.now }
-    requires setup { (F.mark floor.old).setup ≡ setup_of config.now }
+    requires setup { IsSetUpFor config.now (F.mark floor.old).setup }
     requires member { desk.old.member < length config.now.members }
     requires symbols { 0 < length config.now.symbols }
     requires markets { 0 < length config.now.markets }
@@ -212,16 +214,24 @@ fn first_other<F: Floor, L: Ledger>(
     Ok(None)
 }
 
-/// Works the cases over a new desk of A.
-fn goes_otherwise(alloc: Global, cases: &[Case], cut: usize) -> Result<Option<usize>, DeskRefusal> {
-    let config = config_of(alloc)?;
-    let mut desk = Desk::new(alloc, 0, &config)?;
-    let mut floor = PlainFloor {
+/// A floor of that config, without events.
+fn floor_of(alloc: Global) -> Result<PlainFloor, AllocError>
+    ensures { IfOk result (λ floor. floor.config ≡ example_config) }
+{
+    Ok(PlainFloor {
         alloc,
         config: config_of(alloc)?,
         journal: Vec::new(alloc),
         own: Vec::new(alloc),
-    };
+        asked: 0,
+    })
+}
+
+/// Works the cases over a new desk of A.
+fn goes_otherwise(alloc: Global, cases: &[Case], cut: usize) -> Result<Option<usize>, DeskRefusal> {
+    let config = config_of(alloc)?;
+    let mut desk = Desk::new(alloc, 0, &config)?;
+    let mut floor = floor_of(alloc)?;
     let blank = Blank::new(1);
     first_other::<PlainFloor, Brand>(alloc, &mut desk, &mut floor, &config, cases, cut, blank)
 }
@@ -249,5 +259,111 @@ fn worked_examples(rt: HostRuntime) -> Result<(), Fail> {
             );
         }
     }
+    Ok(())
+}
+
+/// Pulls news where there are some: whether there were, how many frames came, and whether there are some then.
+fn pull_where_news<F: Floor>(
+    desk: &mut Desk,
+    floor: &mut F,
+    config: &Config,
+) -> Result<(bool, usize, bool), NoMemory>
+    requires config { IsConfig config.now }
+    requires setup { IsSetUpFor config.now (F.mark floor.old).setup }
+    requires member { desk.old.member < length config.now.members }
+    requires symbols { length config.now.symbols ≡ 2 }
+{
+    let first = floor.reports_after(0, 0, 0)?.front;
+    let second = floor.reports_after(1, 0, 0)?.front;
+    let fronts = [first, second];
+    let before = desk.has_news(&fronts);
+    let frames = desk.pull_news(floor, config, &fronts, start())?;
+    Ok((before, frames.len(), desk.has_news(&fronts)))
+}
+
+/// A logs on and enters an order: what its desk then tells and pulls as news, and how many commands it submitted.
+fn news_of_order<F: Floor, L: Ledger>(
+    alloc: Global,
+    desk: &mut Desk,
+    floor: &mut F,
+    config: &Config,
+    blank: Blank,
+) -> Result<((bool, usize, bool), u32), DeskRefusal>
+    requires config { IsConfig config.now }
+    requires setup { IsSetUpFor config.now (F.mark floor.old).setup }
+    requires member { desk.old.member < length config.now.members }
+    requires symbols { length config.now.symbols ≡ 2 }
+    requires blank { (blank.name ≡ L.name) × (blank.parts ≡ L.parts) × (L.parts ≡ 1) }
+{
+    let mut steps: Steps<L> = Steps::start(blank);
+    let piece = frames_of(alloc, &[LOGON, ORDER])?;
+    let _ = desk.take(floor, config, 1, start(), &piece, &mut steps)?;
+    let submitted = desk.submitted();
+    Ok((pull_where_news(desk, floor, config)?, submitted))
+}
+
+/// The same over a new desk and floor, and how often the symbol without a book was asked.
+fn news_and_asked(alloc: Global) -> Result<((bool, usize, bool), u32, u32), DeskRefusal> {
+    let config = config_of(alloc)?;
+    let mut desk = Desk::new(alloc, 0, &config)?;
+    let mut floor = floor_of(alloc)?;
+    let blank = Blank::new(1);
+    let (pulled, submitted) = news_of_order::<PlainFloor, Brand>(
+        alloc, &mut desk, &mut floor, &config, blank,
+    )?;
+    Ok((pulled, submitted, floor.asked))
+}
+
+#[test]
+fn news_alone_are_asked_for(rt: HostRuntime) -> Result<(), Fail> {
+    let (pulled, submitted, asked) = news_and_asked(rt.alloc()).map_err(|_| NoMemory)?;
+    assert_eq!(rt; pulled, (true, 1, false));
+    assert_eq!(rt; submitted, 1);
+    // The count of its reports was asked for once, and nothing by the pull.
+    assert_eq!(rt; asked, 1);
+    Ok(())
+}
+
+/// Takes a member's desk twice, gives it back and takes it again: whether it was there each time.
+fn take_twice<D: Desks>(desks: &mut D, member: u32) -> (bool, bool, bool)
+    requires { member < D.members desks.old }
+    ensures { D.members desks.new ≡ D.members desks.old }
+{
+    let first = desks.take(member);
+    let there = first.is_some();
+    let again = desks.take(member).is_some();
+    if let Some(desk) = first {
+        desks.give(member, desk);
+    }
+    (there, again, desks.take(member).is_some())
+}
+
+/// Threads may share it.
+fn share<T: Sync>(_shared: &T) {}
+
+/// Two takes of a desk in a table, and of one in a cell; and how many refusals the cell's desks counted.
+fn takes(
+    rt: &impl Wait,
+    alloc: Global,
+) -> Result<((bool, bool, bool), (bool, bool, bool), u64), NoMemory> {
+    let mut table = DeskTable::new(alloc, desks_of(alloc, &config_of(alloc)?)?)?;
+    let from_table = take_twice(&mut table, 0);
+    let cell = DeskCell::new(table);
+    share(&cell);
+    let mut desks = CellDesks {
+        rt,
+        cell: &cell,
+        refused: 0,
+    };
+    let from_cell = take_twice(&mut desks, 1);
+    Ok((from_table, from_cell, desks.refused))
+}
+
+#[test]
+fn a_desk_is_taken_once(rt: HostRuntime) -> Result<(), Fail> {
+    let (from_table, from_cell, refused) = takes(&rt, rt.alloc())?;
+    assert_eq!(rt; from_table, (true, false, true));
+    assert_eq!(rt; from_cell, (true, false, true));
+    assert_eq!(rt; refused, 1);
     Ok(())
 }

@@ -1,22 +1,22 @@
 //! What the frames of a stream make of a member's session.
-ghost use Rattle.std.specs.Prelude.{◌≡◌, ◌≤◌, ◌<◌, ◌++◌, ◌∷◌, ◌⊎◌, [], length, IfOk, OnOk, OnErr, IfErr};
+ghost use Rattle.std.specs.Prelude.{◌≡◌, ◌+◌, ◌≤◌, ◌<◌, ◌++◌, ◌∷◌, ◌⊎◌, [], length, IfOk, OnOk, OnErr, IfErr};
 ghost use Rattle.venue_words.specs.Conditions.{IsConfig};
-ghost use Rattle.venue_words.specs.Floors.{setup_of};
+ghost use Rattle.venue_words.specs.Floors.{IsSetUpFor};
 ghost use Rattle.fix_frames.specs.Reading.{reading_of};
-ghost use Rattle.session_core.specs.State.{cause_of};
-ghost use Rattle.session_core.specs.Machine.{IsOver, sending, given_up};
+ghost use Rattle.session_core.specs.Machine.{given_up};
 ghost use Rattle.member_gate.specs.Submitting.{TookAll, TookNone, Stopped};
 ghost use Rattle.member_gate.specs.Working.{work_of_frame, work_at_limit, work_of_reading, AreUnread, GaveUp};
 
 use crate::answering::answer;
 use crate::origin::Origin;
 use crate::refusal::DeskRefusal;
-use fix_fields::LONGEST_FRAME;
+use crate::worked::Worked;
 use fix_frames::{Framer, Next};
-use session_core::{EndCause, Session, Turn};
+use session_core::Session;
 use std::alloc::Global;
 use std::sync::ledger::Ledger;
-use venue_words::{Bytes, Floor, Items, Steps};
+use venue_words::limits::MAX_FRAME_BYTES;
+use venue_words::{Bytes, Floor, Steps};
 
 /// Works a frame: its replies are added. After a refusal some of them may be.
 #[tactic(auto, unfolding(crate::specs::Working::work_of_frame))]
@@ -26,22 +26,25 @@ fn work_frame<F: Floor, L: Ledger>(
     floor: &mut F,
     origin: Origin<'_>,
     frame: &[u8],
-    replies: &mut Vec<Bytes>,
+    worked: &mut Worked,
     steps: &mut Steps<L>,
 ) -> Result<(), DeskRefusal>
-    requires frame { length frame.now ≤ LONGEST_FRAME }
+    requires frame { length frame.now ≤ MAX_FRAME_BYTES }
     requires config { IsConfig origin.config.now }
-    requires setup { (F.mark floor.old).setup ≡ setup_of origin.config.now }
+    requires setup { IsSetUpFor origin.config.now (F.mark floor.old).setup }
     requires member { origin.member < length origin.config.now.members }
     ensures session { OnOk result (session.new
         ≡ (work_of_frame origin.entry.config.now origin.entry.member origin.entry.moment session.old frame.now).session) }
-    ensures replies { OnOk result (replies.new.items ≡ replies.old.items
+    ensures replies { OnOk result (worked.new.replies.items ≡ worked.old.replies.items
         ++ (work_of_frame origin.entry.config.now origin.entry.member origin.entry.moment session.old frame.now).replies) }
     ensures mark { F.mark floor.new ≡ F.mark floor.old }
     ensures took { OnOk result (TookAll F.at F.step_limit (F.mark floor.old) origin.entry.feed origin.entry.moment
         (work_of_frame origin.entry.config.now origin.entry.member origin.entry.moment session.old frame.now).submissions
         (floor.old, steps.old) (floor.new, steps.new)) }
+    ensures count { OnOk result (worked.new.submitted ≡ worked.old.submitted + length (work_of_frame origin.entry.config.now
+        origin.entry.member origin.entry.moment session.old frame.now).submissions) }
     ensures gave_up { OnErr result (GaveUp origin.entry.moment session.old (frame.now ∷ []) (given_up session.new)) }
+    ensures uncounted { OnErr result (worked.new.submitted ≡ worked.old.submitted) }
     ensures none { IfErr result (λ refusal. TookNone F.at F.step_limit (F.mark floor.old)
         origin.entry.feed origin.entry.moment refusal
         (work_of_frame origin.entry.config.now origin.entry.member origin.entry.moment session.old frame.now).submissions
@@ -49,18 +52,24 @@ fn work_frame<F: Floor, L: Ledger>(
 {
     let turn = session.take(frame, origin.moment)?;
     let mut own = turn.replies.into_vec();
-    replies.append(&mut own)?;
+    worked.replies.append(&mut own)?;
     let Some(request) = turn.request else {
         return Ok(());
     };
-    // Its room is taken first, so that no answer is lost that has its number.
-    replies.reserve(1)?;
+    // Room is taken first, so that no answer is lost that has its number, and no command goes uncounted.
+    worked.replies.reserve(1)?;
+    let Some(count) = worked.submitted.checked_add(1) else {
+        return Err(DeskRefusal::NoMemory);
+    };
     match answer(alloc, session, floor, origin, &request, steps)? {
         Some(reply) => {
-            replies.push_reserved(reply);
+            worked.replies.push_reserved(reply);
             Ok(())
         }
-        None => Ok(()),
+        None => {
+            worked.submitted = count;
+            Ok(())
+        }
     }
 }
 
@@ -84,22 +93,25 @@ fn end_too_long(
 }
 
 /// Works all frames that a stream has now.
-fn work_frames<F: Floor, L: Ledger>(
+pub fn work_frames<F: Floor, L: Ledger>(
     alloc: Global,
     framer: &mut Framer,
     session: &mut Session,
     floor: &mut F,
     origin: Origin<'_>,
-    replies: &mut Vec<Bytes>,
+    worked: &mut Worked,
     steps: &mut Steps<L>,
 ) -> Result<(), DeskRefusal>
     requires config { IsConfig origin.config.now }
-    requires setup { (F.mark floor.old).setup ≡ setup_of origin.config.now }
+    requires setup { IsSetUpFor origin.config.now (F.mark floor.old).setup }
     requires member { origin.member < length origin.config.now.members }
+    requires none { worked.old.submitted ≡ 0 }
     ensures session { OnOk result (session.new ≡ (work_of_reading origin.entry.config.now origin.entry.member
         origin.entry.moment session.old (reading_of framer.old.kept)).session) }
-    ensures replies { OnOk result (replies.new.items ≡ replies.old.items ++ (work_of_reading origin.entry.config.now
+    ensures replies { OnOk result (worked.new.replies.items ≡ worked.old.replies.items ++ (work_of_reading origin.entry.config.now
         origin.entry.member origin.entry.moment session.old (reading_of framer.old.kept)).replies) }
+    ensures count { OnOk result (worked.new.submitted ≡ length (work_of_reading origin.entry.config.now
+        origin.entry.member origin.entry.moment session.old (reading_of framer.old.kept)).submissions) }
     ensures unread { OnOk result (AreUnread framer.old.kept framer.new.kept) }
     ensures mark { F.mark floor.new ≡ F.mark floor.old }
     ensures took { OnOk result (TookAll F.at F.step_limit (F.mark floor.old) origin.entry.feed origin.entry.moment
@@ -107,82 +119,18 @@ fn work_frames<F: Floor, L: Ledger>(
         (reading_of framer.old.kept)).submissions (floor.old, steps.old) (floor.new, steps.new)) }
     ensures stopped { IfErr result (λ refusal. Stopped F.at F.step_limit (F.mark floor.old) origin.entry.config.now
         origin.entry.member origin.entry.feed origin.entry.moment session.old (reading_of framer.old.kept).frames
-        refusal (given_up session.new) (floor.old, steps.old) (floor.new, steps.new)) }
+        refusal (given_up session.new) worked.new.submitted (floor.old, steps.old) (floor.new, steps.new)) }
 {
     'frames: loop {
         match framer.next() {
             Next::Frame(frame) => {
-                work_frame(alloc, session, floor, origin, frame, replies, steps)?;
+                work_frame(alloc, session, floor, origin, frame, worked, steps)?;
             }
             Next::Wait => return Ok(()),
             Next::TooLong => {
-                end_too_long(session, origin, replies)?;
+                end_too_long(session, origin, &mut worked.replies)?;
                 return Ok(());
             }
         }
     }
-}
-
-/// Why a session's connection ended, where it did.
-fn cause_of(session: &mut Session, moment: i64) -> Option<EndCause>
-    ensures cause { result ≡ cause_of session.old.state.phase }
-    ensures same { session.new ≡ session.old }
-{
-    if session.is_up() {
-        return None;
-    }
-    // A tick does nothing to a session that is not up, and says why it ended.
-    match session.tick(moment) {
-        Ok(turn) => turn.ended,
-        Err(_) => None,
-    }
-}
-
-/// The turn that sends these frames.
-pub fn turn_of(session: &mut Session, moment: i64, replies: Vec<Bytes>) -> Turn
-    ensures turn { result ≡ sending session.old replies.items }
-    ensures same { session.new ≡ session.old }
-{
-    Turn {
-        replies: Items(replies),
-        request: None,
-        ended: cause_of(session, moment),
-    }
-}
-
-/// Works the next piece of a stream. A session that has ended takes nothing more, and then no byte is kept.
-pub fn work_piece<F: Floor, L: Ledger>(
-    alloc: Global,
-    framer: &mut Framer,
-    session: &mut Session,
-    floor: &mut F,
-    origin: Origin<'_>,
-    piece: &[u8],
-    steps: &mut Steps<L>,
-) -> Result<Turn, DeskRefusal>
-    requires config { IsConfig origin.config.now }
-    requires setup { (F.mark floor.old).setup ≡ setup_of origin.config.now }
-    requires member { origin.member < length origin.config.now.members }
-    ensures session { OnOk result (session.new ≡ (work_of_reading origin.entry.config.now origin.entry.member
-        origin.entry.moment session.old (reading_of (framer.old.kept ++ piece.now))).session) }
-    ensures turn { IfOk result (λ turn. turn ≡ sending session.new (work_of_reading origin.entry.config.now
-        origin.entry.member origin.entry.moment session.old (reading_of (framer.old.kept ++ piece.now))).replies) }
-    ensures unread { OnOk result (IsOver session.old ⊎ AreUnread (framer.old.kept ++ piece.now) framer.new.kept) }
-    ensures mark { F.mark floor.new ≡ F.mark floor.old }
-    ensures took { OnOk result (TookAll F.at F.step_limit (F.mark floor.old) origin.entry.feed origin.entry.moment
-        (work_of_reading origin.entry.config.now origin.entry.member origin.entry.moment session.old
-        (reading_of (framer.old.kept ++ piece.now))).submissions (floor.old, steps.old) (floor.new, steps.new)) }
-    ensures stopped { IfErr result (λ refusal. Stopped F.at F.step_limit (F.mark floor.old) origin.entry.config.now
-        origin.entry.member origin.entry.feed origin.entry.moment session.old
-        (reading_of (framer.old.kept ++ piece.now)).frames refusal (given_up session.new)
-        (floor.old, steps.old) (floor.new, steps.new)) }
-{
-    let quiet = turn_of(session, origin.moment, Vec::new(alloc));
-    if let Some(_) = quiet.ended {
-        return Ok(quiet);
-    }
-    framer.feed(piece)?;
-    let mut replies = Vec::new(alloc);
-    work_frames(alloc, framer, session, floor, origin, &mut replies, steps)?;
-    Ok(turn_of(session, origin.moment, replies))
 }

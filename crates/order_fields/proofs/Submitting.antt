@@ -1,6 +1,6 @@
 -- What an order asks of a book can be submitted.
-use Rattle.std.proofs.Common.{◌≡◌, ◌<◌, ◌≤◌, ◌==◌, Bool, List, [], ◌∷◌, Option, None, Some, Result, Ok, Err, true, false, length, refl, arith, subst, sym}
-use Rattle.std.specs.Prelude.{ℕ, ℤ, nat_le, nat_lt, not, ◌&&◌, cond, unwrap_or, bytes_eq}
+use Rattle.std.proofs.Common.{◌≡◌, ◌<◌, ◌==◌, Bool, List, [], ◌∷◌, Option, None, Some, Ok, true, false, length, refl, arith, subst}
+use Rattle.std.specs.Prelude.{ℕ, ℤ, nat_lt, ◌&&◌, cond, unwrap_or, bytes_eq}
 use Rattle.std.specs.Option.{option_map_or}
 use Rattle.std.proofs.lemmas.Bool.{lt-ltb}
 use Rattle.std.proofs.lemmas.Bool.Decides.{nat_tests}
@@ -21,7 +21,6 @@ use Rattle.fix_write.specs.declared.tags.TheConstants.{SENDING_TIME}
 use Rattle.session_core.specs.MessageTypes.{is_order}
 use Rattle.session_core.specs.declared.message_types.TheConstants.{NEW_ORDER, CANCEL_REQUEST, REPLACE_REQUEST}
 use Rattle.session_core.specs.Tables.{item}
-use Rattle.order_fields.specs.declared.order.Refusal.{Refusal}
 use Rattle.order_fields.specs.declared.order.Decoded.{Decoded}
 use Rattle.order_fields.specs.declared.tags.TheConstants.{CL_ORD_ID, ORIG_CL_ORD_ID, SYMBOL}
 use Rattle.order_fields.specs.Tables.{required_of, optional_of, behind_id, canceling, ordering}

@@ -6,9 +6,10 @@ use Rattle.venue_words.specs.declared.command.Rule.{Rule}
 use Rattle.venue_words.specs.declared.command.Command.{Command}
 use Rattle.venue_words.specs.declared.command.Command.TheVariants.{New, Cancel, Replace, Status}
 use Rattle.venue_words.specs.declared.config.Config.{Config}
-use Rattle.venue_words.specs.declared.report.Report.{Report}
 use Rattle.venue_words.specs.declared.report.Kind.{Kind}
 use Rattle.venue_words.specs.declared.report.Kind.TheVariants.{Rejected, Refused, Unknown}
+use Rattle.venue_words.specs.declared.report.RefusedRequest.{RefusedRequest}
+use Rattle.venue_words.specs.declared.report.RefusedRequest.TheVariants.{Cancel as CancelRequest, Replace as ReplaceRequest}
 use Rattle.venue_words.specs.Conditions.{fits_limits}
 use Rattle.venue_words.specs.Floors.{Setup, is_configured}
 use Rattle.session_core.specs.declared.message_types.TheConstants.{NEW_ORDER, CANCEL_REQUEST, REPLACE_REQUEST}
@@ -40,17 +41,17 @@ command_of kind member fields =
 abbrev pub unknown_symbol : Rule
 unknown_symbol = record { 0 = 1 }
 
--- the refusal of a cancel, whose answer has the code 1, or of a replace, 2: it names no order, whose state is 8
-abbrev pub stray_refusal : List Field → List ℕ → ℕ → Kind
-stray_refusal fields id answer = Refused id (text_in ORIG_CL_ORD_ID fields) 0 56 answer unknown_symbol
+-- the refusal of a cancel or of a replace: it names no order
+abbrev pub stray_refusal : List Field → List ℕ → RefusedRequest → Kind
+stray_refusal fields id request = Refused id (text_in ORIG_CL_ORD_ID fields) None request unknown_symbol
 
 -- what answers an order
 unfoldable pub stray_kind : ℕ → List Field → Kind
 stray_kind kind fields =
     if kind == NEW_ORDER
     then Rejected (text_in CL_ORD_ID fields) (code_or_zero SIDE fields) (amount_or_zero ORDER_QTY fields) unknown_symbol
-    else (if kind == CANCEL_REQUEST then stray_refusal fields (text_in CL_ORD_ID fields) 49
-    else (if kind == REPLACE_REQUEST then stray_refusal fields (text_in CL_ORD_ID fields) 50
+    else (if kind == CANCEL_REQUEST then stray_refusal fields (text_in CL_ORD_ID fields) CancelRequest
+    else (if kind == REPLACE_REQUEST then stray_refusal fields (text_in CL_ORD_ID fields) ReplaceRequest
     else Unknown (text_in CL_ORD_ID fields) (code_or_zero SIDE fields)))
 
 -- ---- orders

@@ -1,5 +1,6 @@
 //! What an order asks for, or the first reason for which it is refused.
 ghost use Rattle.std.specs.Prelude.{◌≡◌, ◌≤◌, ◌<◌, IfOk, IfSome, length};
+ghost use Rattle.venue_words.specs.declared.limits.TheConstants.{MAX_SYMBOLS};
 ghost use Rattle.venue_words.specs.Conditions.{IsConfig};
 ghost use Rattle.venue_words.specs.Floors.{setup_of};
 ghost use Rattle.order_fields.specs.Order.{command_of, stray_refusal, stray_kind, symbol_of, decoded_of, order, Answers, CanSubmit};
@@ -12,7 +13,7 @@ use session_core::lookup::text_in;
 use session_core::message_types::{CANCEL_REQUEST, NEW_ORDER, REPLACE_REQUEST, is_order};
 use session_core::{Request, first_failed};
 use std::alloc::Global;
-use venue_words::{Bytes, Command, Config, Kind, NoMemory, Report, Rule};
+use venue_words::{Bytes, Command, Config, Kind, NoMemory, RefusedRequest, Report, Rule};
 
 /// Why a message does not reach a book. Nothing is changed by it.
 #[derive(Clone, Copy, Debug, PartialEq, Eq)]
@@ -66,15 +67,19 @@ fn command_of(alloc: Global, kind: u8, member: u32, fields: &[Field]) -> Result<
 }
 
 /// The refusal of a cancel or a replace of a symbol that is not configured.
-fn refused(alloc: Global, fields: &[Field], id: Bytes, answer: u8) -> Result<Kind, NoMemory>
-    ensures { IfOk result (λ kind. kind ≡ stray_refusal fields.now id answer) }
+fn refused(
+    alloc: Global,
+    fields: &[Field],
+    id: Bytes,
+    request: RefusedRequest,
+) -> Result<Kind, NoMemory>
+    ensures { IfOk result (λ kind. kind ≡ stray_refusal fields.now id request) }
 {
     Ok(Kind::Refused {
         id,
         orig: copy_of(alloc, ORIG_CL_ORD_ID, fields)?,
-        first: 0,
-        state: b'8',
-        answer,
+        order: None,
+        request,
         rule: Rule(1),
     })
 }
@@ -92,8 +97,8 @@ fn stray_kind(alloc: Global, kind: u8, fields: &[Field]) -> Result<Kind, NoMemor
             quantity: amount_or_zero(ORDER_QTY, fields),
             rule: Rule(1),
         }),
-        CANCEL_REQUEST => refused(alloc, fields, id, b'1'),
-        REPLACE_REQUEST => refused(alloc, fields, id, b'2'),
+        CANCEL_REQUEST => refused(alloc, fields, id, RefusedRequest::Cancel),
+        REPLACE_REQUEST => refused(alloc, fields, id, RefusedRequest::Replace),
         _ => Ok(Kind::Unknown {
             id,
             side: code_or_zero(SIDE, fields),
@@ -111,7 +116,7 @@ fn place_of(symbols: &[Bytes], name: &[u8]) -> Option<usize>
 
 /// The number of a symbol.
 fn symbol_of(symbols: &[Bytes], name: &[u8]) -> Option<u32>
-    requires { length symbols.now ≤ 256 }
+    requires { length symbols.now ≤ MAX_SYMBOLS }
     ensures { result ≡ symbol_of symbols.now name.now }
 {
     match place_of(symbols, name) {
@@ -129,7 +134,7 @@ fn decoded_of(
     config: &Config,
     moment: i64,
 ) -> Result<Decoded, NoMemory>
-    requires { length config.now.symbols ≤ 256 }
+    requires { length config.now.symbols ≤ MAX_SYMBOLS }
     ensures { IfOk result (λ decoded. decoded ≡ decoded_of request.now member config.now moment) }
 {
     let fields = request.fields.as_slice();
@@ -162,7 +167,7 @@ pub fn read_order(
     config: &Config,
     moment: i64,
 ) -> Result<Decoded, Refusal>
-    requires { length config.now.symbols ≤ 256 }
+    requires { length config.now.symbols ≤ MAX_SYMBOLS }
     ensures order { Answers result (order request.now member config.now moment) }
 
     // The command of a configured member can be submitted to a floor that is set up by the config.

@@ -2,12 +2,13 @@
 ghost use Rattle.std.specs.Prelude.{◌≡◌, IfOk, length};
 
 use crate::{Decoded, Refusal, read_order};
-use fix_fields::{LONGEST_FRAME, moment};
+use fix_fields::moment;
 use fix_write::wrap;
 use session_core::{Request, Session};
 use std::alloc::{AllocError, Global};
 use std::test::Fail;
-use venue_words::{Bytes, Command, Config, Items, Kind, NoMemory, Rule};
+use venue_words::limits::MAX_FRAME_BYTES;
+use venue_words::{Bytes, Command, Config, Items, Kind, NoMemory, RefusedRequest, Rule};
 
 mod rules;
 
@@ -42,7 +43,7 @@ fn request_of(alloc: Global, text: &[u8]) -> Result<Option<Request>, NoMemory> {
     let mut session = Session::new(alloc, Bytes::copy_of(alloc, b"A")?);
     for text in [LOGON, text] {
         let frame = frame_of(alloc, text)?;
-        if frame.len() <= LONGEST_FRAME {
+        if frame.len() <= MAX_FRAME_BYTES {
             let turn = session.take(&frame, start)?;
             if turn.request.is_some() {
                 return Ok(turn.request);
@@ -155,15 +156,13 @@ fn answered_type(kind: &Kind) -> u8 {
             ..
         } => b'D',
         Kind::Refused {
-            first: 0,
-            state: b'8',
-            answer,
+            order: None,
+            request,
             rule: Rule(1),
             ..
-        } => match answer {
-            b'1' => b'F',
-            b'2' => b'G',
-            _ => 0,
+        } => match request {
+            RefusedRequest::Cancel => b'F',
+            RefusedRequest::Replace => b'G',
         },
         Kind::Unknown { side: b'1', .. } => b'H',
         _ => 0,

@@ -9,7 +9,6 @@ pub mod GroupBest
 pub mod GroupLookup
 pub mod GroupSteps
 pub mod KeyCounts
-pub mod Later
 pub mod Lists
 pub mod Mapped
 pub mod Merged

@@ -15,6 +15,3 @@ pub mod side_book;
 pub use flat_side::FlatSide;
 pub use group_side::GroupSide;
 pub use side_book::{SideBook, Taken};
-
-#[cfg(test)]
-mod tests;

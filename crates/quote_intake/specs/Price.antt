@@ -2,7 +2,7 @@
 use Rattle.std.specs.Prelude.{ℕ, ◌+◌, ◌-◌, ◌*◌, nat_le, ◌==◌, Bool, ◌&&◌, ◌||◌, not, if◌then◌else◌, List, length, take, drop, fold, slice_index, Option, Some, None, option_map, option_and_then, codes}
 use Rattle.std.specs.List.{list_all}
 use Rattle.std.specs.Str.{bytes_eq}
-use Rattle.venue_words.specs.Conditions.{most_cents}
+use Rattle.venue_words.specs.declared.limits.TheConstants.{MAX_CENTS}
 
 abbrev pub is_digit : ℕ → Bool
 is_digit byte = nat_le 48 byte && nat_le byte 57
@@ -23,7 +23,7 @@ has_form text =
 
 -- the cents of a price from 0.01 to 19999.99
 unfoldable pub in_range : ℕ → Option ℕ
-in_range cents = if nat_le 1 cents && nat_le cents most_cents then Some cents else None
+in_range cents = if nat_le 1 cents && nat_le cents MAX_CENTS then Some cents else None
 
 -- the cents of a price: digits without a needless 0 in front, a point and two digits, from 0.01 to 19999.99
 unfoldable pub cents_of : List ℕ → Option ℕ

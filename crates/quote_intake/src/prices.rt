@@ -4,8 +4,7 @@ ghost use Rattle.std.specs.Bool.{OnTrue};
 ghost use Rattle.venue_words.specs.Conditions.{fits_quote};
 ghost use Rattle.quote_intake.specs.Price.{is_digit, digits_of, has_form, in_range, cents_of, price_of};
 
-/// The greatest price of a quote, in cents.
-const MOST_CENTS: u64 = 1_999_999;
+use venue_words::limits::MAX_CENTS;
 
 fn is_digit(byte: u8) -> bool
     ensures { result ≡ is_digit byte }
@@ -45,7 +44,7 @@ fn in_range(cents: u64) -> Option<u32>
     ensures value { result ≡ in_range cents }
     ensures fits { fits_quote result ≡ true }
 {
-    if 1 <= cents && cents <= MOST_CENTS {
+    if 1 <= cents && cents <= u64::from(MAX_CENTS) {
         Some(cents as u32)
     } else {
         None

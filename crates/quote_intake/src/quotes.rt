@@ -1,5 +1,6 @@
 //! The quote of a line.
 ghost use Rattle.std.specs.Prelude.{◌≡◌, ◌≢◌, ◌≤◌, ◌<◌, true, [], ◌∷◌, length, IfOk, IfSome, IfNone};
+ghost use Rattle.venue_words.specs.declared.limits.TheConstants.{MAX_MARKETS, MAX_SYMBOLS};
 ghost use Rattle.venue_words.specs.Conditions.{fits_limits};
 ghost use Rattle.venue_words.specs.Floors.{setup_of, is_configured};
 ghost use Rattle.quote_intake.specs.Words.{words_of};
@@ -62,8 +63,8 @@ fn number_in(names: &[Bytes], name: &[u8]) -> Option<usize>
 /// offer.
 #[tactic(auto, unfolding(crate::specs::Quote::quote_in))]
 pub fn read_quote(words: &[u8], config: &Config) -> Result<(u32, Command), QuoteFault>
-    requires symbols { length config.now.symbols ≤ 256 }
-    requires markets { length config.now.markets ≤ 32 }
+    requires symbols { length config.now.symbols ≤ MAX_SYMBOLS }
+    requires markets { length config.now.markets ≤ MAX_MARKETS }
     ensures quote { result ≡ quote_of words.now config.now }
     ensures symbol { IfOk result (λ read. read.0 < length config.now.symbols) }
     ensures configured { IfOk result (λ read. is_configured (setup_of config.now) read.1 ≡ true) }

@@ -7,6 +7,7 @@ use Rattle.std.specs.List.{range_with_len}
 use Rattle.venue_words.specs.declared.command.Command.{Command}
 use Rattle.venue_words.specs.declared.command.Event.{Event}
 use Rattle.venue_words.specs.declared.config.Config.{Config}
+use Rattle.venue_words.specs.declared.report.Report.{Report}
 use Rattle.venue_words.specs.Floors.{FloorMark, Setup, SymbolView, Records, AddsNone}
 use Rattle.venue_words.specs.Journals.{event}
 use Rattle.eager_meaning.specs.State.{State}
@@ -15,7 +16,9 @@ use Rattle.member_gate.specs.Answering.{Submission}
 use Rattle.member_gate.specs.Submitting.{TookOne, TookAll, TookNone, TookNoSteps, Waited}
 use Rattle.replay_core.specs.PlainFloor.{IsPlain, ShowsJournals}
 use Rattle.replay_core.specs.Playing.{journal_at, reports_in, reports_at}
-use Rattle.replay_core.specs.Recording.{Recorded, has_room, next_event, with_event, most_steps, recorded, recorded_behind}
+use Rattle.venue_core.specs.Runs.{most_steps}
+use Rattle.replay_core.specs.Pulling.{ShowsFronts}
+use Rattle.replay_core.specs.Recording.{Recorded, has_room, next_event, with_event, recorded, recorded_behind}
 
 empty : {A : Type 0} (xs : List A) → length xs ≡ 0 → xs ≡ []
 empty [] e = refl
@@ -32,7 +35,7 @@ last_same (x ∷ xs) (y ∷ ys) a b e =
     let rest : xs ++ a ∷ [] ≡ ys ++ b ∷ [] = cc in
     rw (first, last_same xs ys a b rest) refl
 
-eq_or_not : (a b : ℕ) → (a ≡ b) ⊎ (a ≢ b)
+pub eq_or_not : (a b : ℕ) → (a ≡ b) ⊎ (a ≢ b)
 eq_or_not zero zero = inl refl
 eq_or_not zero (suc b) = inr (λ e. absurd (cc))
 eq_or_not (suc a) zero = inr (λ e. absurd (cc))
@@ -46,19 +49,19 @@ less_or_not a b = elim (nat_lt a b) as (λ t. nat_lt a b ≡ t → (a < b) ⊎ (
 
 -- ---- lists of journals
 
-journal_set_same : (js : List (List Event)) (s : ℕ) (j : List Event) → s < length js → journal_at (slice_set js s j) s ≡ j
+pub journal_set_same : (js : List (List Event)) (s : ℕ) (j : List Event) → s < length js → journal_at (slice_set js s j) s ≡ j
 journal_set_same [] s j l = absurd (omega arith)
 journal_set_same (j0 ∷ js) zero j l = refl
 journal_set_same (j0 ∷ js) (suc s) j l = journal_set_same js s j (omega arith)
 
-journal_set_other : (js : List (List Event)) (s o : ℕ) (j : List Event) → o ≢ s → journal_at (slice_set js s j) o ≡ journal_at js o
+pub journal_set_other : (js : List (List Event)) (s o : ℕ) (j : List Event) → o ≢ s → journal_at (slice_set js s j) o ≡ journal_at js o
 journal_set_other [] s o j n = refl
 journal_set_other (j0 ∷ js) zero zero j n = absurd (n refl)
 journal_set_other (j0 ∷ js) zero (suc o) j n = refl
 journal_set_other (j0 ∷ js) (suc s) zero j n = refl
 journal_set_other (j0 ∷ js) (suc s) (suc o) j n = journal_set_other js s o j (λ e. n (ap suc e))
 
-length_set : (js : List (List Event)) (s : ℕ) (j : List Event) → length (slice_set js s j) ≡ length js
+pub length_set : (js : List (List Event)) (s : ℕ) (j : List Event) → length (slice_set js s j) ≡ length js
 length_set [] s j = refl
 length_set (j0 ∷ js) zero j = refl
 length_set (j0 ∷ js) (suc s) j = ap suc (length_set js s j)
@@ -206,7 +209,7 @@ no_steps mark_of at limit state config mark moment (one ∷ others) before after
     (event (length (at after.0 one.symbol).journal + 1) 1 moment one.command) in
     same_at _ known.0 before.1 after.1 known.1 h
 
-full_first : (config : Config) (moment : ℤ) (one : Submission) (others : List Submission) (journals : List (List Event))
+pub full_first : (config : Config) (moment : ℤ) (one : Submission) (others : List Submission) (journals : List (List Event))
     → has_room config journals one.symbol ≡ false → (recorded config moment (one ∷ others) journals).is_full ≡ true
 full_first config moment one others journals e = rw e refl
 
@@ -229,7 +232,7 @@ none_full mark_of at limit state config mark moment symbol found (one ∷ others
 
 -- ---- commands in two parts
 
-recorded_first : (config : Config) (moment : ℤ) (x : Submission) (zs : List Submission) (journals : List (List Event))
+pub recorded_first : (config : Config) (moment : ℤ) (x : Submission) (zs : List Submission) (journals : List (List Event))
     → has_room config journals x.symbol ≡ true
     → recorded config moment (x ∷ zs) journals
     ≡ recorded_behind (most_steps config x.symbol (journal_at journals x.symbol) (next_event moment x journals))
@@ -287,3 +290,15 @@ pub reports_shown : {F : Type 0} (mark_of : F → FloorMark) (at : F → ℕ →
     → (symbol : ℕ) → symbol < length config.symbols → (at floor symbol).reports ≡ reports_at config journals symbol
 reports_shown mark_of at limit state config mark floor plain same journals shows symbol l =
     plain.reports floor symbol same l ∙ ap (reports_in config symbol) (shows symbol l)
+
+-- a look at a plain floor leaves how many reports there are
+pub fronts_kept : {F : Type 0} (mark_of : F → FloorMark) (at : F → ℕ → SymbolView) (limit : FloorMark → ℕ → List Event → Event → Option ℕ) (state : F → ℕ → State) (config : Config) (mark : FloorMark) (old new : F) (fronts : List ℕ)
+    → IsPlain mark_of at limit state config mark → mark_of old ≡ mark → mark_of new ≡ mark
+    → ((symbol : ℕ) → Waited (at old symbol) (at new symbol))
+    → ShowsFronts at config old fronts → ShowsFronts at config new fronts
+fronts_kept mark_of at limit state config mark old new fronts plain before after waited fs = record {
+  each = fs.each;
+  read = λ symbol l. let journal = own_kept (at old symbol) (at new symbol) (plain.own old symbol) (plain.own new symbol) (waited symbol).none in
+      fs.read symbol l
+      ∙ ap (length {A = Report}) (plain.reports old symbol before l ∙ ap (reports_in config symbol) (sym journal) ∙ sym (plain.reports new symbol after l));
+}

@@ -2,9 +2,7 @@
 use Rattle.std.proofs.Common.{◌≡◌, ◌+◌, ℕ, List, [], ◌++◌, Option, Some, None, sym, ◌∙◌, ap, append_assoc, append-nil, zero-add, arith}
 use Rattle.std.specs.Io.KnownBytes.{Appends}
 use Rattle.replay_core.specs.Play.{Played, onto}
-use Rattle.replay_core.specs.Telling.{Seen, Leads, Begins, Halts}
-use Rattle.replay_core.specs.declared.status.Status.{Status}
-use Rattle.replay_core.specs.declared.status.Status.TheVariants.{Done, BadWords, BadLine, LimitLine, ReadFault, WriteFault, NoMemory}
+use Rattle.replay_core.specs.Telling.{Seen, Leads}
 
 pub appends_none : (t : Option (List ℕ)) → Appends t t []
 appends_none None = tt
@@ -37,23 +35,3 @@ leads_trans a b c f g h x y = record {
   counted = omega (arith, x.counted, y.counted);
   goes = λ more. x.goes more ∙ ap (onto x.done x.spent) (y.goes more) ∙ onto_onto x.done y.done x.spent y.spent (h more);
 }
-
-pub leads_begins : (a b c : Seen) (f g : List ℕ → Played) → Leads a b f g → Begins b c g → Begins a c f
-leads_begins a b c f g x y = record {
-  done = x.done ++ y.done;
-  grew = appends_trans a.told b.told c.told x.done y.done x.grew y.grew;
-  behind = y.behind;
-  goes = λ more. ap (λ (p : Played). p.text) (x.goes more) ∙ ap (λ (t : List ℕ). x.done ++ t) (y.goes more)
-      ∙ sym (append_assoc x.done y.done (y.behind more));
-  counted = λ more. let all : (f more).steps ≡ x.spent + (g more).steps = ap (λ (p : Played). p.steps) (x.goes more) in
-      omega (arith, x.counted, y.counted more, all);
-}
-
-pub leads_halts : (a b c : Seen) (f g : List ℕ → Played) (s : Status) → Leads a b f g → Halts b c g s → Halts a c f s
-leads_halts a b c f g Done x y = absurd y
-leads_halts a b c f g BadWords x y = absurd y
-leads_halts a b c f g (BadLine line cause) x y = leads_trans a b c f g _ x y
-leads_halts a b c f g (LimitLine line which) x y = leads_trans a b c f g _ x y
-leads_halts a b c f g ReadFault x y = absurd y
-leads_halts a b c f g WriteFault x y = leads_begins a b c f g x y
-leads_halts a b c f g NoMemory x y = leads_begins a b c f g x y

@@ -1,5 +1,5 @@
 -- The load script, line by line, and what a load run comes to.
-use Rattle.std.proofs.Common.{◌≡◌, ◌⊎◌, ℕ, ◌+◌, ◌<◌, ◌≤◌, List, [], ◌∷◌, ◌++◌, length, map, drop, get_or, Option, Some, None, Ok, Err, refl, sym, ◌∙◌, ap, subst, inl, inr, length-append, arith}
+use Rattle.std.proofs.Common.{◌≡◌, ◌⊎◌, ℕ, ◌+◌, ◌<◌, ◌≤◌, nat_lt, Bool, true, List, [], ◌∷◌, ◌++◌, length, map, drop, get_or, Option, Some, None, Ok, Err, refl, sym, ◌∙◌, ap, subst, inl, inr, length-append, arith}
 use Rattle.std.proofs.lemmas.List.{drop_more, drop_all}
 use Rattle.std.proofs.lemmas.List.FromFn.{length-map-range_with_len}
 use Rattle.std.specs.List.{range_with_len}
@@ -11,12 +11,14 @@ use Rattle.script_text.specs.declared.header.Header.{Header}
 use Rattle.script_text.specs.declared.fault.LineFault.{LineFault}
 use Rattle.script_text.specs.declared.fault.LineFault.TheVariants as fault
 use Rattle.script_text.specs.declared.fault.LineCause.TheVariants.{NoEnd}
-use Rattle.replay_core.specs.Between.{Between}
+use Rattle.script_text.specs.declared.fault.LimitCause.TheVariants.{Line}
+use Rattle.std.proofs.lemmas.Bool.Decides.{nat_tests}
+use Rattle.venue_words.specs.declared.limits.TheConstants.{MAX_LINE_BYTES, MAX_SCRIPT_BYTES}
 use Rattle.replay_core.specs.Loading.{loaded, line_behind, summary, Loaded, LoadOutcome, LoadsTo}
 use Rattle.replay_core.specs.Phases.{IsAtStage}
 use Rattle.replay_core.specs.Play.{Place, Stage, Head, Body, Played, Stepped, play, step_at, after_line, onto, start, end_at, end_of, finished, stopped}
 use Rattle.replay_core.specs.Playing.{Playing}
-use Rattle.replay_core.specs.Reading.{IsAt}
+use Rattle.replay_core.specs.Reading.{IsAtPlace, IsBehind, IsLineAt}
 use Rattle.replay_core.specs.Stages.{Kept, StandsFor}
 use Rattle.replay_core.specs.Statuses.{status_of}
 use Rattle.replay_core.specs.Summary.{summary_of, summary_text}
@@ -50,105 +52,120 @@ next_line : (place : Place) (lines : List (List ℕ)) (done : ℕ) → done < le
 unfolding play
 next_line place lines done l = rw (drop_more lines done [] l) refl
 
--- ---- a reader goes on
+-- ---- line by line
 
-pub loads_first : {F : Type 0} (at : F → ℕ → SymbolView) (orders quotes steps : ℕ) (reader : Between F) → IsAt at reader start
-    → reader.held ≡ [] → LoadsTo at (loaded orders quotes) (load_lines orders quotes) steps steps reader
+pub loads_first : {F : Type 0} (at : F → ℕ → SymbolView) (orders quotes steps : ℕ) (phase : Phase F) → IsAtPlace at phase start
+    → LoadsTo at (loaded orders quotes) (load_lines orders quotes) steps steps 0 0 phase
 unfolding loaded
-loads_first at orders quotes steps reader there held = record {
+loads_first at orders quotes steps phase there = record {
   place = start;
   there = there;
-  held = held;
+  lines_are = refl;
+  bytes_are = refl;
   text = [];
   spent = 0;
   counted = omega arith;
   goes = onto_nothing (play start (load_lines orders quotes) []);
 }
 
--- a line was worked, wherever the reader stands
-pub record Worked {F : Type 0} (at : F → ℕ → SymbolView) (reader next : Between F) (part out : List ℕ) (old new : ℕ) : Type 0 where
-  pub answer : (place : Place) → IsAt at reader place
-      → (behind : Place) × ((step_at place (reader.held ++ part)).result ≡ Ok (behind, out)) × IsAt at next behind
-  pub steps : (place : Place) → IsAt at reader place → new ≤ old + (step_at place (reader.held ++ part)).steps
-  pub empty : next.held ≡ []
+-- the next line stands where the lines so far lead
+pub line_stands : {F : Type 0} (at : F → ℕ → SymbolView) (all : Played) (rest : List (List ℕ)) (old new lines bytes : ℕ) (phase : Phase F)
+    (number : ℕ) (line : List ℕ) (is_over : Bool) (x : LoadsTo at all rest old new lines bytes phase) → number ≡ lines + 1
+    → is_over ≡ nat_lt MAX_SCRIPT_BYTES (bytes + length line + 1) → IsLineAt number line is_over x.place
+line_stands at all rest old new lines bytes phase number line is_over x e over = record {
+  counted = e ∙ ap (λ (n : ℕ). n + 1) x.lines_are;
+  over = over ∙ ap (λ (n : ℕ). nat_lt MAX_SCRIPT_BYTES (n + length line + 1)) x.bytes_are;
+}
 
-pub loads_on : {F : Type 0} (at : F → ℕ → SymbolView) (all : Played) (lines : List (List ℕ)) (done old mid new : ℕ) (reader next : Between F) (part out : List ℕ)
-    → LoadsTo at all (drop done lines) old mid reader → done < length lines → part ≡ get_or lines done []
-    → Worked at reader next part out mid new → LoadsTo at all (drop (done + 1) lines) old new next
-loads_on at all lines done old mid new reader next part out x l e w =
-    let y = w.answer x.place x.there in
-    let line : reader.held ++ part ≡ get_or lines done [] = ap (λ (held : List ℕ). held ++ part) x.held ∙ e in
-    let same : step_at x.place (reader.held ++ part) ≡ step_at x.place (get_or lines done []) = ap (step_at x.place) line in
-    let result : (step_at x.place (get_or lines done [])).result ≡ Ok (y.0, out) = ap (λ (s : Stepped). s.result) (sym same) ∙ y.1 in
-    let spent : (step_at x.place (reader.held ++ part)).steps ≡ (step_at x.place (get_or lines done [])).steps = ap (λ (s : Stepped). s.steps) same in
-    let counted = w.steps x.place x.there in
+-- a line was worked where the lines so far lead
+pub record Worked {F : Type 0} (at : F → ℕ → SymbolView) (place : Place) (phase : Phase F) (line out : List ℕ) (old new : ℕ) : Type 0 where
+  pub answer : (behind : Place) × ((step_at place line).result ≡ Ok (behind, out)) × IsBehind at place line phase behind
+  pub steps : new ≤ old + (step_at place line).steps
+
+pub loads_on : {F : Type 0} (at : F → ℕ → SymbolView) (all : Played) (lines : List (List ℕ)) (done bytes old mid new : ℕ) (phase next : Phase F)
+    (line out : List ℕ) (x : LoadsTo at all (drop done lines) old mid done bytes phase) → done < length lines → line ≡ get_or lines done []
+    → Worked at x.place next line out mid new
+    → LoadsTo at all (drop (done + 1) lines) old new (done + 1) (bytes + (length line + 1)) next
+loads_on at all lines done bytes old mid new phase next line out x l e w =
+    let y = w.answer in
+    let result : (step_at x.place (get_or lines done [])).result ≡ Ok (y.0, out) = subst (λ (t : List ℕ). (step_at x.place t).result ≡ Ok (y.0, out)) e y.1 in
+    let spent : (step_at x.place line).steps ≡ (step_at x.place (get_or lines done [])).steps = ap (λ (t : List ℕ). (step_at x.place t).steps) e in
     record {
       place = y.0;
-      there = y.2;
-      held = w.empty;
+      there = y.2.there;
+      lines_are = ap (λ (n : ℕ). n + 1) x.lines_are ∙ sym y.2.lines;
+      bytes_are = omega (arith, x.bytes_are, y.2.bytes);
       text = x.text ++ out;
       spent = x.spent + (step_at x.place (get_or lines done [])).steps;
-      counted = omega (arith, x.counted, counted, spent);
+      counted = omega (arith, x.counted, w.steps, spent);
       goes = x.goes ∙ ap (onto x.text x.spent) (next_line x.place lines done l
           ∙ worked_line (step_at x.place (get_or lines done [])) y.0 out (λ next. play next (drop (done + 1) lines) []) result)
           ∙ onto_onto x.text out x.spent (step_at x.place (get_or lines done [])).steps (play y.0 (drop (done + 1) lines) []);
     }
 
-pub loads_within : {F : Type 0} (at : F → ℕ → SymbolView) (all : Played) (rest : List (List ℕ)) (old new : ℕ) (reader : Between F)
-    → LoadsTo at all rest old new reader → new ≤ old + all.steps
-loads_within at all rest old new reader x =
+pub loads_within : {F : Type 0} (at : F → ℕ → SymbolView) (all : Played) (rest : List (List ℕ)) (old new lines bytes : ℕ) (phase : Phase F)
+    → LoadsTo at all rest old new lines bytes phase → new ≤ old + all.steps
+loads_within at all rest old new lines bytes phase x =
     let steps : all.steps ≡ x.spent + (play x.place rest []).steps = ap (λ (p : Played). p.steps) x.goes in
     omega (arith, x.counted, steps)
 
--- a line was refused
-pub record Unworked {F : Type 0} (at : F → ℕ → SymbolView) (reader : Between F) (part : List ℕ) (why : LineFault) (old new : ℕ) : Type 0 where
-  pub answer : (place : Place) → IsAt at reader place
-      → (why ≡ fault.NoMemory) ⊎ ((step_at place (reader.held ++ part)).result ≡ Err why)
-  pub steps : (place : Place) → IsAt at reader place → new ≤ old + (step_at place (reader.held ++ part)).steps
+-- a line was refused where the lines so far lead
+pub record Unworked (place : Place) (line : List ℕ) (why : LineFault) (old new : ℕ) : Type 0 where
+  pub answer : (why ≡ fault.NoMemory) ⊎ ((step_at place line).result ≡ Err why)
+  pub steps : new ≤ old + (step_at place line).steps
 
-pub loads_fault : {F : Type 0} (at : F → ℕ → SymbolView) (all : Played) (lines : List (List ℕ)) (done old mid new : ℕ) (reader : Between F) (part : List ℕ) (why : LineFault)
-    → LoadsTo at all (drop done lines) old mid reader → done < length lines → part ≡ get_or lines done []
-    → Unworked at reader part why mid new → (why ≡ fault.NoMemory) ⊎ (all.fault ≡ Some why)
-loads_fault at all lines done old mid new reader part why x l e w =
-    let line : reader.held ++ part ≡ get_or lines done [] = ap (λ (held : List ℕ). held ++ part) x.held ∙ e in
-    elim (w.answer x.place x.there) [
+pub loads_fault : {F : Type 0} (at : F → ℕ → SymbolView) (all : Played) (lines : List (List ℕ)) (done bytes old mid new : ℕ) (phase : Phase F)
+    (line : List ℕ) (why : LineFault) (x : LoadsTo at all (drop done lines) old mid done bytes phase) → done < length lines
+    → line ≡ get_or lines done [] → Unworked x.place line why mid new → (why ≡ fault.NoMemory) ⊎ (all.fault ≡ Some why)
+loads_fault at all lines done bytes old mid new phase line why x l e w =
+    elim w.answer [
       | inl none ↦ inl none
       | inr refused ↦
-          let result : (step_at x.place (get_or lines done [])).result ≡ Err why = ap (λ (t : List ℕ). (step_at x.place t).result) (sym line) ∙ refused in
+          let result : (step_at x.place (get_or lines done [])).result ≡ Err why = subst (λ (t : List ℕ). (step_at x.place t).result ≡ Err why) e refused in
           inr (ap (λ (p : Played). p.fault) (x.goes ∙ ap (onto x.text x.spent) (next_line x.place lines done l
           ∙ refused_line (step_at x.place (get_or lines done [])) why (λ next. play next (drop (done + 1) lines) []) result)))
     ]
 
-pub loads_stopped : {F : Type 0} (at : F → ℕ → SymbolView) (all : Played) (lines : List (List ℕ)) (done old mid new : ℕ) (reader : Between F) (part : List ℕ) (why : LineFault)
-    → LoadsTo at all (drop done lines) old mid reader → done < length lines → part ≡ get_or lines done []
-    → Unworked at reader part why mid new → new ≤ old + all.steps
-loads_stopped at all lines done old mid new reader part why x l e w =
-    let line : reader.held ++ part ≡ get_or lines done [] = ap (λ (held : List ℕ). held ++ part) x.held ∙ e in
-    let spent : (step_at x.place (reader.held ++ part)).steps ≡ (step_at x.place (get_or lines done [])).steps = ap (λ (t : List ℕ). (step_at x.place t).steps) line in
-    let counted = w.steps x.place x.there in
+pub loads_stopped : {F : Type 0} (at : F → ℕ → SymbolView) (all : Played) (lines : List (List ℕ)) (done bytes old mid new : ℕ) (phase : Phase F)
+    (line : List ℕ) (why : LineFault) (x : LoadsTo at all (drop done lines) old mid done bytes phase) → done < length lines
+    → line ≡ get_or lines done [] → Unworked x.place line why mid new → new ≤ old + all.steps
+loads_stopped at all lines done bytes old mid new phase line why x l e w =
+    let spent : (step_at x.place line).steps ≡ (step_at x.place (get_or lines done [])).steps = ap (λ (t : List ℕ). (step_at x.place t).steps) e in
     let steps : all.steps ≡ x.spent + (play x.place (drop done lines) []).steps = ap (λ (p : Played). p.steps) x.goes in
     let next : (play x.place (drop done lines) []).steps ≡ (after_line (step_at x.place (get_or lines done [])) (λ next. play next (drop (done + 1) lines) [])).steps =
     ap (λ (p : Played). p.steps) (next_line x.place lines done l) in
     let most = either_steps (step_at x.place (get_or lines done [])).steps (step_at x.place (get_or lines done [])).result (λ next. play next (drop (done + 1) lines) []) in
-    omega (arith, x.counted, counted, spent, steps, next, most)
+    omega (arith, x.counted, w.steps, spent, steps, next, most)
+
+-- a line that is too long
+pub long_unworked : {F : Type 0} (at : F → ℕ → SymbolView) (all : Played) (rest : List (List ℕ)) (old new lines bytes : ℕ) (phase : Phase F)
+    (number : ℕ) (line : List ℕ) (x : LoadsTo at all rest old new lines bytes phase) → number ≡ lines + 1 → MAX_LINE_BYTES < length line
+    → Unworked x.place line (fault.Limit number Line) new new
+unfolding step_at
+long_unworked at all rest old new lines bytes phase number line x e long =
+    let test : nat_lt MAX_LINE_BYTES (length line) ≡ true = grind (arith, nat_tests) in
+    let same : x.place.lines + 1 ≡ number = ap (λ (n : ℕ). n + 1) (sym x.lines_are) ∙ sym e in
+    record { answer = inr (rw (test, same) refl); steps = omega arith }
 
 -- ---- what the run comes to
 
 -- behind the last line
-behind_lines : {F : Type 0} (at : F → ℕ → SymbolView) (all : Played) (old new : ℕ) (reader : Between F) (x : LoadsTo at all [] old new reader)
-    → all ≡ onto x.text x.spent (end_of (x.place.lines + 1) x.place.stage [])
+behind_lines : {F : Type 0} (at : F → ℕ → SymbolView) (all : Played) (old new lines bytes : ℕ) (phase : Phase F)
+    (x : LoadsTo at all [] old new lines bytes phase) → all ≡ onto x.text x.spent (end_of (x.place.lines + 1) x.place.stage [])
 unfolding play end_at
-behind_lines at all old new reader x = x.goes
+behind_lines at all old new lines bytes phase x = x.goes
 
 end_of_body : {F : Type 0} (at : F → ℕ → SymbolView) (n : ℕ) (player : Kept F) (stage : Stage) → IsAtStage at (phase.Body player) stage
     → (playing : Playing) × (end_of n stage [] ≡ finished playing) × StandsFor at player playing
 end_of_body at n player (Head header) s = absurd s
 end_of_body at n player (Body playing) s = (playing, refl, s)
 
-end_of_head : {F : Type 0} (at : F → ℕ → SymbolView) (n : ℕ) (header : Header) (stage : Stage) → IsAtStage at (phase.Head header) stage
-    → end_of n stage [] ≡ stopped (fault.Bad n NoEnd)
-end_of_head at n header (Head other) s = refl
-end_of_head at n header (Body playing) s = absurd s
+end_of_other : {F : Type 0} (at : F → ℕ → SymbolView) (n : ℕ) (now : Phase F) (stage : Stage) → IsAtStage at now stage
+    → ((player : Kept F) → now ≡ phase.Body player → ⊥) → end_of n stage [] ≡ stopped (fault.Bad n NoEnd)
+end_of_other at n (phase.Head header) (Head other) s unended = refl
+end_of_other at n (phase.Head header) (Body playing) s unended = absurd s
+end_of_other at n (phase.Body player) stage s unended = absurd (unended player refl)
+end_of_other at n (phase.Refused why) stage s unended = absurd s
 
 -- a player at the end, for which that of the definitions stands
 pub record AtEnd {F : Type 0} (at : F → ℕ → SymbolView) (all : Played) (player : Kept F) : Type 0 where
@@ -157,12 +174,12 @@ pub record AtEnd {F : Type 0} (at : F → ℕ → SymbolView) (all : Played) (pl
   pub last : all.last ≡ Some playing
   pub whole : all.fault ≡ None
 
-pub at_end : {F : Type 0} (at : F → ℕ → SymbolView) (all : Played) (old new : ℕ) (reader : Between F) (player : Kept F)
-    → LoadsTo at all [] old new reader → reader.phase ≡ phase.Body player → AtEnd at all player
-at_end at all old new reader player x is =
-    let stage = subst (λ (p : Phase _). IsAtStage at p x.place.stage) is x.there.stage in
+pub at_end : {F : Type 0} (at : F → ℕ → SymbolView) (all : Played) (old new lines bytes : ℕ) (now : Phase F) (player : Kept F)
+    → LoadsTo at all [] old new lines bytes now → now ≡ phase.Body player → AtEnd at all player
+at_end at all old new lines bytes now player x is =
+    let stage = subst (λ (p : Phase _). IsAtStage at p x.place.stage) is x.there in
     let y = end_of_body at (x.place.lines + 1) player x.place.stage stage in
-    let whole : all ≡ onto x.text x.spent (finished y.0) = behind_lines at all old new reader x ∙ ap (onto x.text x.spent) y.1 in
+    let whole : all ≡ onto x.text x.spent (finished y.0) = behind_lines at all old new lines bytes now x ∙ ap (onto x.text x.spent) y.1 in
     record {
       playing = y.0;
       stands = y.2;
@@ -186,31 +203,30 @@ pub record PutsSummary {F : Type 0} (at : F → ℕ → SymbolView) (old new : O
   pub early : (status ≡ Done → ⊥) → (playing : Playing) → StandsFor at player playing → AppendsPrefix old new (summary_text (summary_of playing))
   pub ends : ((status ≡ Done) ⊎ (status ≡ NoMemory)) ⊎ (status ≡ WriteFault)
 
-pub loaded_body : {F : Type 0} (at : F → ℕ → SymbolView) (orders quotes : ℕ) (old new : Option (List ℕ)) (before after : ℕ) (reader : Between F) (player : Kept F) (status : Status)
-    → LoadsTo at (loaded orders quotes) [] before after reader → reader.phase ≡ phase.Body player → PutsSummary at old new player status
-    → Loaded orders quotes (seen old before) (seen new after) status
-loaded_body at orders quotes old new before after reader player status x is puts =
-    let y = at_end at (loaded orders quotes) before after reader player x is in
+pub loaded_body : {F : Type 0} (at : F → ℕ → SymbolView) (orders quotes : ℕ) (old new : Option (List ℕ)) (before after lines bytes : ℕ) (now : Phase F)
+    (player : Kept F) (status : Status) → LoadsTo at (loaded orders quotes) [] before after lines bytes now → now ≡ phase.Body player
+    → PutsSummary at old new player status → Loaded orders quotes (seen old before) (seen new after) status
+loaded_body at orders quotes old new before after lines bytes now player status x is puts =
+    let y = at_end at (loaded orders quotes) before after lines bytes now player x is in
     record {
       outcome = told_summary orders quotes old new (summary_text (summary_of y.playing)) status puts.ends
           (ap line_behind (sym y.last)) y.whole (λ e. puts.done e y.playing y.stands) (λ e. puts.early e y.playing y.stands);
-      steps = loads_within at (loaded orders quotes) [] before after reader x;
+      steps = loads_within at (loaded orders quotes) [] before after lines bytes now x;
     }
 
-pub loaded_head : {F : Type 0} (at : F → ℕ → SymbolView) (orders quotes : ℕ) (told : Option (List ℕ)) (before after line : ℕ) (reader : Between F) (header : Header)
-    → LoadsTo at (loaded orders quotes) [] before after reader → reader.phase ≡ phase.Head header
-    → line ≡ reader.lines + 1 → Loaded orders quotes (seen told before) (seen told after) (BadLine line NoEnd)
-loaded_head at orders quotes told before after line reader header x is e =
-    let here : line ≡ x.place.lines + 1 = e ∙ ap (λ (n : ℕ). n + 1) x.there.lines in
-    let stage = subst (λ (p : Phase _). IsAtStage at p x.place.stage) is x.there.stage in
+pub loaded_open : {F : Type 0} (at : F → ℕ → SymbolView) (orders quotes : ℕ) (told : Option (List ℕ)) (before after lines bytes : ℕ) (now : Phase F)
+    (line : ℕ) → LoadsTo at (loaded orders quotes) [] before after lines bytes now → ((player : Kept F) → now ≡ phase.Body player → ⊥)
+    → line ≡ lines + 1 → Loaded orders quotes (seen told before) (seen told after) (BadLine line NoEnd)
+loaded_open at orders quotes told before after lines bytes now line x unended e =
+    let here : line ≡ x.place.lines + 1 = e ∙ ap (λ (n : ℕ). n + 1) x.lines_are in
     record {
       outcome = (
         refl,
-        ap (λ (p : Played). p.fault) (behind_lines at (loaded orders quotes) before after reader x
-            ∙ ap (onto x.text x.spent) (end_of_head at (x.place.lines + 1) header x.place.stage stage))
+        ap (λ (p : Played). p.fault) (behind_lines at (loaded orders quotes) before after lines bytes now x
+            ∙ ap (onto x.text x.spent) (end_of_other at (x.place.lines + 1) now x.place.stage x.there unended))
             ∙ ap (λ (n : ℕ). Some (fault.Bad n NoEnd)) (sym here),
       );
-      steps = loads_within at (loaded orders quotes) [] before after reader x;
+      steps = loads_within at (loaded orders quotes) [] before after lines bytes now x;
     }
 
 refused_outcome : (orders quotes : ℕ) (told : Option (List ℕ)) (why : LineFault) → (why ≡ fault.NoMemory) ⊎ ((loaded orders quotes).fault ≡ Some why)

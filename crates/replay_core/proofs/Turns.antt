@@ -1,10 +1,11 @@
 -- A line at a stage of a script.
-use Rattle.std.proofs.Common.{◌≡◌, ◌⊎◌, ℕ, ◌≤◌, ◌+◌, Bool, true, false, List, [], Ok, Err, refl, sym, ◌∙◌, ap, inl, inr}
+use Rattle.std.proofs.Common.{◌≡◌, ◌⊎◌, ℕ, ◌≤◌, ◌+◌, Bool, true, false, List, [], Result, Ok, Err, refl, sym, ◌∙◌, ap, inl, inr}
 use Rattle.venue_words.specs.Floors.{SymbolView}
 use Rattle.script_text.specs.declared.header.Header.{Header}
 use Rattle.script_text.specs.declared.fault.LineFault.{LineFault}
 use Rattle.script_text.specs.declared.fault.LineFault.TheVariants.{NoMemory}
 use Rattle.script_text.specs.Header.{header_line}
+use Rattle.replay_core.specs.Meets.{MeetsInPlace}
 use Rattle.replay_core.specs.Phases.{IsAtStage}
 use Rattle.replay_core.specs.Play.{Stage, Head, Body, turned, after_header, after_body}
 use Rattle.replay_core.specs.PlayLine.{play_line}
@@ -42,21 +43,15 @@ head_ends at n header next whole (Head other) text kept e h w s = (
 )
 head_ends at n header next whole (Body playing) text kept e h w s = absurd e
 
-pub body_refused : {F : Type 0} (at : F → ℕ → SymbolView) (n : ℕ) (kept : Kept F) (stage : Stage) (text : List ℕ) (fault : LineFault)
-    → ((playing : Playing) → StandsFor at kept playing → (fault ≡ NoMemory) ⊎ ((play_line n playing text).result ≡ Err fault))
-    → IsAtStage at (phase.Body kept) stage → (fault ≡ NoMemory) ⊎ ((turned n stage text).result ≡ Err fault)
-unfolding turned
-body_refused at n kept (Head header) text fault h s = absurd s
-body_refused at n kept (Body playing) text fault h s = elim (h playing s) [ inl none ↦ inl none | inr e ↦ inr (ap after_body e) ]
-
-pub body_goes_on : {F : Type 0} (at : F → ℕ → SymbolView) (n : ℕ) (kept next : Kept F) (stage : Stage) (text out : List ℕ)
-    → ((playing : Playing) → StandsFor at kept playing
-    → (behind : Playing) × ((play_line n playing text).result ≡ Ok (behind, out)) × StandsFor at next behind)
+pub body_worked : {F : Type 0} (at : F → ℕ → SymbolView) (n : ℕ) (kept next : Kept F) (stage : Stage) (text out : List ℕ) (result : Result (Unit {0}) LineFault)
+    → ((playing : Playing) → StandsFor at kept playing → MeetsInPlace (StandsFor at) (play_line n playing text).result result next out)
     → IsAtStage at (phase.Body kept) stage
-    → (behind : Stage) × ((turned n stage text).result ≡ Ok (behind, out)) × IsAtStage at (phase.Body next) behind
+    → MeetsInPlace (IsAtStage at) (turned n stage text).result result (phase.Body next) out
 unfolding turned
-body_goes_on at n kept next (Head header) text out h s = absurd s
-body_goes_on at n kept next (Body playing) text out h s = let x = h playing s in (Body x.0, ap after_body x.1, x.2)
+body_worked at n kept next (Head header) text out result h s = absurd s
+body_worked at n kept next (Body playing) text out (Ok x) h s = let y = h playing s in (Body y.0, ap after_body y.1, y.2)
+body_worked at n kept next (Body playing) text out (Err fault) h s =
+    elim (h playing s) [ inl none ↦ inl none | inr e ↦ inr (ap after_body e) ]
 
 pub body_steps : {F : Type 0} (at : F → ℕ → SymbolView) (n : ℕ) (kept : Kept F) (stage : Stage) (text : List ℕ) (before after : ℕ)
     → ((playing : Playing) → StandsFor at kept playing → after ≤ before + (play_line n playing text).steps)

@@ -5,12 +5,12 @@ use Rattle.io_edge.specs.Grows.{AppendsPrefix}
 use Rattle.venue_words.specs.Floors.{SymbolView}
 use Rattle.script_text.specs.Load.{load_lines}
 use Rattle.script_text.specs.declared.fault.LineFault.TheVariants as fault
-use Rattle.replay_core.specs.Between.{Between}
 use Rattle.replay_core.specs.Play.{Place, Played, play, onto, start}
 use Rattle.replay_core.specs.Playing.{Playing}
-use Rattle.replay_core.specs.Reading.{IsAt}
+use Rattle.replay_core.specs.Reading.{IsAtPlace}
 use Rattle.replay_core.specs.Summary.{summary_of, summary_text}
 use Rattle.replay_core.specs.Telling.{Seen}
+use Rattle.replay_core.specs.declared.phase.Phase.{Phase}
 use Rattle.replay_core.specs.declared.status.Status.{Status}
 use Rattle.replay_core.specs.declared.status.Status.TheVariants.{Done, BadWords, BadLine, LimitLine, ReadFault, WriteFault, NoMemory}
 
@@ -43,12 +43,14 @@ pub record Loaded (orders quotes : ℕ) (old new : Seen) (status : Status) : Typ
   pub outcome : LoadOutcome orders quotes old.told new.told status
   pub steps : new.steps ≤ old.steps + (loaded orders quotes).steps
 
--- A reader has worked whole lines and stands before these ones: all that is made is some output, some steps, and what
--- these lines make from there; and no more steps were counted than those.
-pub record LoadsTo {F : Type 0} (at : F → ℕ → SymbolView) (all : Played) (rest : List (List ℕ)) (old new : ℕ) (reader : Between F) : Type 0 where
+-- So many lines and bytes were worked, the phase stands behind them, and these lines are still there: all that is made is
+-- some output, some steps, and what these lines make from there; and no more steps were counted than those.
+pub record LoadsTo {F : Type 0} (at : F → ℕ → SymbolView) (all : Played) (rest : List (List ℕ)) (old new lines bytes : ℕ)
+    (phase : Phase F) : Type 0 where
   pub place : Place
-  pub there : IsAt at reader place
-  pub held : reader.held ≡ []
+  pub there : IsAtPlace at phase place
+  pub lines_are : lines ≡ place.lines
+  pub bytes_are : bytes ≡ place.bytes
   pub text : List ℕ
   pub spent : ℕ
   pub counted : new ≤ old + spent

@@ -5,8 +5,8 @@ use Rattle.venue_words.specs.declared.config.Config.{Config}
 use Rattle.venue_words.specs.declared.command.Event.{Event}
 use Rattle.venue_words.specs.Floors.{FloorMark, SymbolView, setup_of}
 use Rattle.eager_meaning.specs.State.{State}
-use Rattle.replay_core.specs.Playing.{journal_at, run_in, reports_in}
-use Rattle.replay_core.specs.Recording.{most_steps}
+use Rattle.venue_core.specs.Runs.{run_in, most_steps}
+use Rattle.replay_core.specs.Playing.{journal_at, reports_in}
 
 -- the floors of this mark are set up with the config: every event is an own one, the reports and the state of a symbol's
 -- book are those of its journal, and it is said how many steps an event may take

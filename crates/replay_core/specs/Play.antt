@@ -1,19 +1,16 @@
 -- What a script makes, line by line.
 use Rattle.std.specs.Prelude.{ℕ, ◌+◌, Bool, List, [], ◌∷◌, ◌++◌, length, Option, Some, None, Result, Ok, Err, nat_lt, if◌then◌else◌}
-use Rattle.script_text.specs.Header.{header_line, blank, longest_line}
+use Rattle.venue_words.specs.declared.limits.TheConstants.{MAX_LINE_BYTES, MAX_SCRIPT_BYTES}
+use Rattle.script_text.specs.Header.{header_line, blank}
 use Rattle.script_text.specs.Lines.{cut}
 use Rattle.script_text.specs.declared.header.Header.{Header}
 use Rattle.script_text.specs.declared.fault.LineFault.{LineFault}
-use Rattle.script_text.specs.declared.fault.LineFault.TheVariants.{Bad, Limit, NoMemory}
+use Rattle.script_text.specs.declared.fault.LineFault.TheVariants.{Bad, Limit}
 use Rattle.script_text.specs.declared.fault.LineCause.TheVariants.{NoEnd}
-use Rattle.script_text.specs.declared.fault.LimitCause.{LimitCause}
-use Rattle.script_text.specs.declared.fault.LimitCause.TheVariants.{Line, Bytes}
+use Rattle.script_text.specs.declared.fault.LimitCause.TheVariants.{Line}
+use Rattle.line_reader.specs.Over.{weighed}
 use Rattle.replay_core.specs.Playing.{Playing, before_body}
 use Rattle.replay_core.specs.PlayLine.{Answer, play_line}
-
--- the most bytes of a script
-abbrev pub longest_script : ℕ
-longest_script = 1073741824
 
 -- in the header, or behind it
 pub data Stage : Type 0 where
@@ -65,20 +62,6 @@ unfoldable pub turned : ℕ → Stage → List ℕ → Turned
 turned n (Head header) text = record { result = after_header (header_line n header text); steps = 0 }
 turned n (Body playing) text = turned_body (play_line n playing text)
 
--- what a line that holds the byte past the limit comes to: a bad line and a long one come first
-abbrev pub over_limit : LimitCause → LimitCause
-over_limit Line = Line
-over_limit _ = Bytes
-
-abbrev pub over_fault : LineFault → LineFault
-over_fault (Bad line cause) = Bad line cause
-over_fault (Limit line which) = Limit line (over_limit which)
-over_fault NoMemory = NoMemory
-
-abbrev pub over : ℕ → Result (Stage × List ℕ) LineFault → LineFault
-over n (Ok x) = Limit n Bytes
-over n (Err fault) = over_fault fault
-
 -- the place behind a line, with the line's output; or why the line is refused
 pub record Stepped : Type 0 where
   pub result : Result (Place × List ℕ) LineFault
@@ -92,13 +75,11 @@ abbrev pub placed : Place → List ℕ → Result (Stage × List ℕ) LineFault 
 placed place text (Ok x) = Ok (next_place place text x.0, x.1)
 placed place text (Err fault) = Err fault
 
-abbrev pub weighed : Place → List ℕ → Turned → Stepped
-weighed place text turned =
+-- a line that is short enough, under the limit on the script's bytes
+abbrev pub stepped : Place → List ℕ → Turned → Stepped
+stepped place text turned =
     record {
-      result =
-          if nat_lt longest_script (place.bytes + length text + 1)
-          then Err (over (place.lines + 1) turned.result)
-          else placed place text turned.result;
+      result = weighed MAX_SCRIPT_BYTES (place.lines + 1) (place.bytes + length text + 1) (placed place text turned.result);
       steps = turned.steps;
     }
 
@@ -108,9 +89,9 @@ refused_at place fault = record { result = Err fault; steps = 0 }
 -- the line behind a place
 unfoldable pub step_at : Place → List ℕ → Stepped
 step_at place text =
-    if nat_lt longest_line (length text)
+    if nat_lt MAX_LINE_BYTES (length text)
     then refused_at place (Limit (place.lines + 1) Line)
-    else weighed place text (turned (place.lines + 1) place.stage text)
+    else stepped place text (turned (place.lines + 1) place.stage text)
 
 -- what stands behind the last line: a script is at its end where it has a whole header and no further byte
 abbrev pub end_of : ℕ → Stage → List ℕ → Played
@@ -119,7 +100,7 @@ end_of n _ _ = stopped (Bad n NoEnd)
 
 unfoldable pub end_at : Place → List ℕ → Played
 end_at place rest =
-    if nat_lt longest_line (length rest)
+    if nat_lt MAX_LINE_BYTES (length rest)
     then stopped (Limit (place.lines + 1) Line)
     else end_of (place.lines + 1) place.stage rest
 

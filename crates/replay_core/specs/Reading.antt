@@ -1,40 +1,46 @@
--- The reader in the middle of a script.
-use Rattle.std.specs.Prelude.{◌≡◌, ℕ, ◌+◌, false, List, ◌++◌, length, Option}
+-- A script in the middle of its lines.
+use Rattle.std.specs.Prelude.{◌≡◌, ℕ, ◌+◌, Bool, List, ◌∷◌, ◌++◌, length, nat_lt, Option}
+use Rattle.std.specs.Io.KnownBytes.{Consumes}
 use Rattle.venue_words.specs.Floors.{SymbolView}
+use Rattle.venue_words.specs.declared.limits.TheConstants.{MAX_SCRIPT_BYTES}
 use Rattle.script_text.specs.declared.fault.LineFault.{LineFault}
-use Rattle.script_text.specs.Lines.{has_end}
-use Rattle.replay_core.specs.Between.{Between}
 use Rattle.replay_core.specs.Phases.{IsAtStage}
-use Rattle.replay_core.specs.Play.{Place, Played, played, end_at}
-use Rattle.replay_core.specs.Telling.{Seen, Leads, Underway}
+use Rattle.replay_core.specs.Play.{Place, Played, played, start, end_at}
+use Rattle.replay_core.specs.Telling.{Seen, Leads}
+use Rattle.replay_core.specs.declared.phase.Phase.{Phase}
 
--- a reader stands at a place, and holds bytes behind it without a whole line
-pub record IsAt {F : Type 0} (at : F → ℕ → SymbolView) (reader : Between F) (place : Place) : Type 0 where
-  pub stage : IsAtStage at reader.phase place.stage
-  pub lines : reader.lines ≡ place.lines
-  pub bytes : reader.bytes ≡ place.bytes
-  pub clear : has_end reader.held ≡ false
+-- a phase stands for the stage of a place
+abbrev pub IsAtPlace : {F : Type 0} → (F → ℕ → SymbolView) → Phase F → Place → Type 0
+IsAtPlace at phase place = IsAtStage at phase place.stage
 
--- what the script makes from here on, if it goes on so
-abbrev pub ahead : Place → List ℕ → List ℕ → Played
-ahead place held more = played place (held ++ more)
+-- a line of this number and text stands behind a place, and is over or not
+pub record IsLineAt (number : ℕ) (text : List ℕ) (is_over : Bool) (place : Place) : Type 0 where
+  pub counted : number ≡ place.lines + 1
+  pub over : is_over ≡ nat_lt MAX_SCRIPT_BYTES (place.bytes + length text + 1)
 
--- the reader is further on, with a rest of what was read behind what it holds: what was told leads there
-pub record Goes {F : Type 0} (at : F → ℕ → SymbolView) (old new : Seen) (before : List ℕ → Played) (next : Between F) (rest : List ℕ) : Type 0 where
-  pub place : Place
-  pub there : IsAt at next place
-  pub leads : Leads old new before (λ more. ahead place next.held (rest ++ more))
+-- the phase stands behind a line of a place
+pub record IsBehind {F : Type 0} (at : F → ℕ → SymbolView) (place : Place) (line : List ℕ) (phase : Phase F) (next : Place) : Type 0 where
+  pub there : IsAtPlace at phase next
+  pub lines : next.lines ≡ place.lines + 1
+  pub bytes : next.bytes ≡ place.bytes + length line + 1
 
--- how many bytes were read
-abbrev pub size_of : {F : Type 0} → Between F → ℕ
-size_of reader = reader.bytes + length reader.held
+-- a line was worked and its output was put: the phase stands behind it, and what was told leads there
+pub record Goes {F : Type 0} (at : F → ℕ → SymbolView) (old new : Seen) (place : Place) (line : List ℕ) (phase : Phase F) : Type 0 where
+  pub next : Place
+  pub behind : IsBehind at place line phase next
+  pub leads : Leads old new (λ more. played place (line ++ 10 ∷ more)) (played next)
 
 -- why the script may not end here
 abbrev pub fault_in : Place → List ℕ → Option LineFault
-fault_in place held = (end_at place held).fault
+fault_in place rest = (end_at place rest).fault
 
--- in the middle of a file: the reader stands where its script leads
-pub record InMiddle {F : Type 0} (at : F → ℕ → SymbolView) (first left : Option (List ℕ)) (old new : Seen) (reader : Between F) : Type 0 where
+-- in the middle of a file, with so many lines and bytes worked and these bytes held: the phase stands where the lines lead
+pub record InMiddle {F : Type 0} (at : F → ℕ → SymbolView) (first left : Option (List ℕ)) (old new : Seen) (lines bytes : ℕ)
+    (held : List ℕ) (phase : Phase F) : Type 0 where
   pub place : Place
-  pub there : IsAt at reader place
-  pub under : Underway first left old new (ahead place reader.held)
+  pub there : IsAtPlace at phase place
+  pub lines_are : lines ≡ place.lines
+  pub bytes_are : bytes ≡ place.bytes
+  pub worked : List ℕ
+  pub taken : Consumes first left (worked ++ held)
+  pub leads : Leads old new (λ more. played start (worked ++ more)) (played place)

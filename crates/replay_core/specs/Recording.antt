@@ -3,9 +3,9 @@ use Rattle.std.specs.Prelude.{ℕ, ◌+◌, ℤ, Bool, true, false, nat_lt, if�
 use Rattle.venue_words.specs.declared.config.Config.{Config}
 use Rattle.venue_words.specs.declared.command.Event.{Event}
 use Rattle.venue_words.specs.Journals.{event}
-use Rattle.eager_meaning.specs.Work.{bound}
 use Rattle.member_gate.specs.Answering.{Submission}
-use Rattle.replay_core.specs.Playing.{journal_at, run_in}
+use Rattle.venue_core.specs.Runs.{most_steps}
+use Rattle.replay_core.specs.Playing.{journal_at}
 
 -- the journals behind commands, the most steps that these may take, and whether one of them found its journal full: it
 -- and the commands behind it are in no journal
@@ -26,11 +26,6 @@ next_event moment one journals = event (length (journal_at journals one.symbol) 
 abbrev pub with_event : ℤ → Submission → List (List Event) → List (List Event)
 with_event moment one journals =
     slice_set journals one.symbol (journal_at journals one.symbol ++ next_event moment one journals ∷ [])
-
--- the most steps that an event behind a symbol's journal may take
-unfoldable pub most_steps : Config → ℕ → List Event → Event → ℕ
-most_steps config symbol journal event =
-    bound (slice_index config.ticks symbol) (run_in config symbol journal).state event.number event.command
 
 abbrev pub none_recorded : List (List Event) → Bool → Recorded
 none_recorded journals is_full = record { journals = journals; steps = 0; is_full = is_full }

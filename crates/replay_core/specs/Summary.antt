@@ -1,17 +1,19 @@
 -- What a symbol's book came to, in seven numbers.
 use Rattle.std.specs.Prelude.{ℕ, ◌/◌, Bool, true, false, List, [], ◌∷◌, ◌++◌, length, decimal, codes, count_by}
 use Rattle.venue_words.specs.declared.price.Side.TheVariants.{Buy}
+use Rattle.venue_words.specs.declared.report.Execution.TheVariants.{Accepted, Traded}
 use Rattle.venue_words.specs.declared.report.Kind.{Kind}
-use Rattle.venue_words.specs.declared.report.Kind.TheVariants.{Accepted, Traded, Rejected}
+use Rattle.venue_words.specs.declared.report.Kind.TheVariants.{Order, Rejected}
 use Rattle.venue_words.specs.declared.report.Report.{Report}
 use Rattle.eager_meaning.specs.State.{resting}
 use Rattle.eager_meaning.specs.Work.{groups}
 use Rattle.market_laws.specs.Trading.{shares_traded}
-use Rattle.replay_core.specs.Playing.{Playing, journal_at, run_in}
+use Rattle.venue_core.specs.Runs.{run_in}
+use Rattle.replay_core.specs.Playing.{Playing, journal_at}
 use Rattle.replay_core.specs.declared.summary.Summary.{Summary}
 
 abbrev pub is_accepted : Kind → Bool
-is_accepted (Accepted view) = true
+is_accepted (Order view Accepted) = true
 is_accepted _ = false
 
 abbrev pub is_rejected : Kind → Bool
@@ -19,7 +21,7 @@ is_rejected (Rejected id side quantity rule) = true
 is_rejected _ = false
 
 abbrev pub is_traded : Kind → Bool
-is_traded (Traded view quantity price) = true
+is_traded (Order view (Traded quantity price)) = true
 is_traded _ = false
 
 -- so many events, the orders that reports tell as accepted and rejected, the trades, of which each is told by two reports,
@@ -40,7 +42,7 @@ counted events reports resting groups =
 unfoldable pub summary_of : Playing → Summary
 summary_of playing =
     let journal = journal_at playing.journals 0 in
-    let run = run_in playing.config 0 journal in
+    let run = run_in playing.feed.config 0 journal in
     counted (length journal) run.reports (length (resting run.state)) (groups run.state)
 
 abbrev pub labelled : List ℕ → ℕ → List ℕ → List ℕ

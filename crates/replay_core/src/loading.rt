@@ -1,5 +1,5 @@
 //! The load script, played from its own lines, and summed up.
-ghost use Rattle.std.specs.Prelude.{◌≡◌, ◌≢◌, ◌≤◌, ◌+◌, ◌⊎◌, [], Some, IfOk, IfErr};
+ghost use Rattle.std.specs.Prelude.{◌≡◌, ◌≢◌, ◌≤◌, ◌+◌, ◌⊎◌, ℕ, [], Some, IfOk, IfErr};
 ghost use Rattle.std.specs.Io.KnownBytes.{Appends};
 ghost use Rattle.io_edge.specs.Grows.{AppendsPrefix};
 ghost use Rattle.venue_words.specs.Causes.{Rose};
@@ -11,14 +11,13 @@ ghost use Rattle.replay_core.specs.Stages.{StandsFor};
 ghost use Rattle.replay_core.specs.Summary.{summary_of, summary_text};
 ghost use Rattle.replay_core.specs.Telling.{seen};
 
+use crate::lines::{script_line, work_line};
 use crate::phase::Phase;
-use crate::pieces::{before_script, work_line};
 use crate::plain_floor::PlainFloor;
 use crate::player::Player;
-use crate::reading::Reader;
 use crate::status::{Status, status_of};
 use io_edge::Sink;
-use script_text::{LineCause, LineFault, load_line};
+use script_text::{Header, LineCause, LineFault, load_line};
 use std::alloc::Global;
 use std::sync::ledger::Ledger;
 use venue_words::Steps;
@@ -29,24 +28,30 @@ fn play_lines<F: PlainFloor, L: Ledger>(
     orders: u32,
     quotes: u32,
     steps: &mut Steps<L>,
-) -> Result<Reader<F>, LineFault>
+) -> Result<Phase<F>, LineFault>
     requires orders { orders ≤ most_load }
     requires quotes { quotes ≤ most_load }
-    ensures ok { IfOk result (λ reader. LoadsTo F.at (loaded orders quotes) [] steps.old steps.new reader) }
+    ensures ok { IfOk result (λ phase. (bytes : ℕ) ×
+        LoadsTo F.at (loaded orders quotes) [] steps.old steps.new (orders + quotes + 8) bytes phase) }
     ensures err { IfErr result (λ fault. (fault ≡ memory) ⊎ ((loaded orders quotes).fault ≡ Some fault)) }
     ensures steps { steps.new ≤ steps.old + (loaded orders quotes).steps }
 {
-    let mut reader = before_script::<F>(alloc);
+    let mut phase = Phase::Head(Header::new(alloc));
     let mut text = Vec::new(alloc);
+    let mut bytes = 0u64;
     for done in 0..orders + quotes + 8 {
         let line = load_line(alloc, orders, quotes, done + 1)?;
+        let line = match script_line(done + 1, line.as_slice(), bytes) {
+            Ok(line) => line,
+            Err(fault) => return Err(fault),
+        };
         text.clear();
-        match work_line(reader, line.as_slice(), &mut text, steps) {
-            Ok(next) => reader = next,
+        match work_line(alloc, &mut phase, line, &mut text, steps) {
+            Ok(()) => bytes += line.text.len() as u64 + 1,
             Err(fault) => return Err(fault),
         }
     }
-    Ok(reader)
+    Ok(phase)
 }
 
 /// Puts the line that sums a player up.
@@ -82,14 +87,14 @@ pub fn play_load<F: PlainFloor, K: Sink, L: Ledger>(
     ensures later { K.faults out.old ≤ K.faults out.new }
     ensures write { result ≡ Status.WriteFault → Rose (K.faults out.old) (K.faults out.new) }
 {
-    let reader = match play_lines::<F, L>(alloc, orders, quotes, steps) {
-        Ok(reader) => reader,
+    let phase = match play_lines::<F, L>(alloc, orders, quotes, steps) {
+        Ok(phase) => phase,
         Err(fault) => return status_of(fault),
     };
-    match &reader.phase {
+    match &phase {
         Phase::Body(player) => put_summary(alloc, player, out),
-        Phase::Head(_) => Status::BadLine {
-            line: reader.lines + 1,
+        _ => Status::BadLine {
+            line: orders + quotes + 9,
             cause: LineCause::NoEnd,
         },
     }

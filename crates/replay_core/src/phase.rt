@@ -1,77 +1,73 @@
 //! Header or body: which machine works the next line.
-ghost use Rattle.std.specs.Prelude.{◌≡◌, ◌≤◌, ◌+◌, [], IfOk, length};
-ghost use Rattle.venue_words.specs.Conditions.{IsConfig};
-ghost use Rattle.replay_core.specs.Meets.{Meets};
-ghost use Rattle.replay_core.specs.Play.{Stage, turned, over_fault};
-ghost use Rattle.replay_core.specs.Phases.{IsAtStage, IsReady};
+ghost use Rattle.std.specs.Prelude.{◌≡◌, ◌≤◌, ◌+◌, [], Err, IfErr, length};
+ghost use Rattle.venue_words.specs.declared.limits.TheConstants.{MAX_LINE_BYTES};
+ghost use Rattle.script_text.specs.declared.fault.LineFault.{LineFault};
+ghost use Rattle.replay_core.specs.Meets.{MeetsInPlace};
+ghost use Rattle.replay_core.specs.Play.{Stage, turned};
+ghost use Rattle.replay_core.specs.Phases.{IsAtFault, IsAtStage, IsReady};
 
 use crate::plain_floor::PlainFloor;
 use crate::player::Player;
-use script_text::{Header, LimitCause, LineFault};
+use script_text::{Header, LineFault};
 use std::alloc::Global;
+use std::mem::replace;
 use std::sync::ledger::Ledger;
 use venue_words::Steps;
 
-/// Whether a script is in its header or behind it.
+/// Whether a script is in its header or behind it, or was refused in its header.
 #[derive(Drop)]
 pub enum Phase<F: PlainFloor> {
     Head(Header),
     Body(Player<F>),
+    Refused(LineFault),
 }
 
-/// Works a line, of this number and without its LF, and gives its output.
+/// Works a line, of this number and without its LF, and gives its output. After a fault the phase stands at that fault, and
+/// every later line is answered with it.
 pub fn turn<F: PlainFloor, L: Ledger>(
     alloc: Global,
-    phase: Phase<F>,
+    phase: &mut Phase<F>,
     line: u32,
     text: &[u8],
     out: &mut Vec<u8>,
     steps: &mut Steps<L>,
-) -> Result<Phase<F>, LineFault>
-    requires ready { IsReady phase }
-    requires short { length text.now ≤ 16384 }
+) -> Result<(), LineFault>
+    requires ready { IsReady phase.old }
+    requires short { length text.now ≤ MAX_LINE_BYTES }
     requires empty { out.old.items ≡ [] }
-    ensures answer { (stage : Stage) → IsAtStage F.at phase stage
-        → Meets (IsAtStage F.at) (turned line stage text.now).result result out.new.items }
-    ensures steps { (stage : Stage) → IsAtStage F.at phase stage
+    ensures answer { (stage : Stage) → IsAtStage F.at phase.old stage
+        → MeetsInPlace (IsAtStage F.at) (turned line stage text.now).result result phase.new out.new.items }
+    ensures steps { (stage : Stage) → IsAtStage F.at phase.old stage
         → steps.new ≤ steps.old + (turned line stage text.now).steps }
-    ensures ready { IfOk result IsReady }
+    ensures ready { IsReady phase.new }
+
+    // A fault is not forgotten.
+    ensures fault { IfErr result (IsAtFault phase.new) }
+    ensures again { (fault : LineFault) → IsAtFault phase.old fault → result ≡ Err fault }
+    ensures quiet { (fault : LineFault) → IsAtFault phase.old fault → (out.new.items ≡ []) × (steps.new ≡ steps.old) }
 {
     match phase {
-        Phase::Head(mut header) => {
-            let whole = match header.line(alloc, line, text) {
-                Ok(whole) => whole,
-                Err(fault) => return Err(fault),
-            };
-            if whole {
-                Ok(Phase::Body(Player::new(alloc, header.config)?))
-            } else {
-                Ok(Phase::Head(header))
+        Phase::Head(header) => match header.line(alloc, line, text) {
+            Ok(false) => Ok(()),
+            Ok(true) => {
+                let whole = replace(header, Header::new(alloc));
+                match Player::new(alloc, whole.config) {
+                    Ok(player) => {
+                        *phase = Phase::Body(player);
+                        Ok(())
+                    }
+                    Err(_) => {
+                        *phase = Phase::Refused(LineFault::NoMemory);
+                        Err(LineFault::NoMemory)
+                    }
+                }
             }
-        }
-        Phase::Body(player) => match player.line(line, text, out, steps) {
-            Ok(player) => Ok(Phase::Body(player)),
-            Err(fault) => Err(fault),
+            Err(fault) => {
+                *phase = Phase::Refused(fault);
+                Err(fault)
+            }
         },
-    }
-}
-
-/// What a fault comes to in a line that holds the byte past the limit of the script.
-pub fn over_fault(fault: LineFault) -> LineFault
-    ensures { result ≡ over_fault fault }
-{
-    match fault {
-        LineFault::Limit {
-            line,
-            which: LimitCause::Line,
-        } => LineFault::Limit {
-            line,
-            which: LimitCause::Line,
-        },
-        LineFault::Limit { line, which: _ } => LineFault::Limit {
-            line,
-            which: LimitCause::Bytes,
-        },
-        other => other,
+        Phase::Body(player) => player.line(line, text, out, steps),
+        Phase::Refused(fault) => Err(*fault),
     }
 }

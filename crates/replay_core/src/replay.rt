@@ -1,32 +1,31 @@
 //! The top call.
-ghost use Rattle.std.specs.Prelude.{◌≡◌, ◌≢◌, ◌≤◌, ◌<◌, ◌⊎◌, ℕ, List, None, Some, length, IfOk, IfSome, IsNone, IsTrue};
-ghost use Rattle.std.specs.Io.KnownBytes.{Appends};
+ghost use Rattle.std.specs.Prelude.{◌≡◌, ◌≢◌, ◌≤◌, ◌⊎◌, ℕ, List, None, Some, IfSome, IsNone, IsTrue};
 ghost use Rattle.venue_words.specs.Causes.{Rose};
 ghost use Rattle.io_edge.specs.Files.{HasFile, file_named};
 ghost use Rattle.program_words.specs.Words.{texts};
-ghost use Rattle.replay_core.specs.Causes.{script_named, script_told, LacksScript};
-ghost use Rattle.replay_core.specs.Loading.{Loaded};
-ghost use Rattle.replay_core.specs.Plan.{Load, plan_of};
-ghost use Rattle.replay_core.specs.Statuses.{status_text, Yields, refusal_of};
+ghost use Rattle.replay_core.specs.Causes.{script_named};
+ghost use Rattle.replay_core.specs.Plan.{plan_of};
+ghost use Rattle.replay_core.specs.Runs.{Ends};
+ghost use Rattle.replay_core.specs.Statuses.{IsTold, refusal_of};
 ghost use Rattle.replay_core.specs.Telling.{Ran, seen};
 
 use crate::loading::play_load;
-use crate::pieces::before_script;
 use crate::plain_floor::PlainFloor;
 use crate::plan::{Plan, plan_of};
 use crate::replaying::play_file;
 use crate::status::Status;
-use crate::telling::tell;
 use io_edge::{Shelf, Sink};
+use line_reader::{LineReader, tell};
 use program_words::{WordFault, read_words};
-use std::alloc::{AllocError, Global};
+use std::alloc::Global;
 use std::sync::ledger::Ledger;
 use symbol_book::Book;
 use venue_core::PlainVenue;
 use venue_words::Steps;
+use venue_words::limits::MAX_SCRIPT_BYTES;
 
-/// The most bytes that are read at once.
-const READ_BYTES: usize = 65_536;
+/// The name under which a status is told.
+const PROGRAM: &str = "pegreplay";
 
 /// Why words have no form.
 fn refusal_of(fault: WordFault) -> Status
@@ -36,13 +35,6 @@ fn refusal_of(fault: WordFault) -> Status
         WordFault::BadWords => Status::BadWords,
         WordFault::NoMemory => Status::NoMemory,
     }
-}
-
-/// A buffer of so many bytes.
-fn buffer_of(alloc: Global, size: usize) -> Result<Vec<u8>, AllocError>
-    ensures { IfOk result (λ buffer. length buffer.items ≡ size) }
-{
-    vec![in alloc; 0u8; size]
 }
 
 /// Plays the script of this name.
@@ -56,7 +48,8 @@ fn play_named<F: PlainFloor, H: Shelf, K: Sink, L: Ledger>(
     ensures ran { IfSome (H.told shelf.old) (λ files. IfSome (file_named files name.now) (λ bytes.
         Ran bytes (seen (K.told out.old) steps.old) (seen (K.told out.new) steps.new) (H.left shelf.new) result)) }
     ensures missing { IfSome (H.told shelf.old) (λ files. IsNone (file_named files name.now) →
-        ((result ≡ Status.ReadFault) ⊎ (result ≡ Status.NoMemory)) × (K.told out.new ≡ K.told out.old)) }
+        ((result ≡ Status.ReadFault) ⊎ (result ≡ Status.NoMemory))
+        × (seen (K.told out.new) steps.new ≡ seen (K.told out.old) steps.old)) }
     ensures read_later { H.faults shelf.old ≤ H.faults shelf.new }
     ensures write_later { K.faults out.old ≤ K.faults out.new }
     ensures read { result ≡ Status.ReadFault → Rose (H.faults shelf.old) (H.faults shelf.new) }
@@ -64,14 +57,12 @@ fn play_named<F: PlainFloor, H: Shelf, K: Sink, L: Ledger>(
     ensures sure { IsTrue (H.sure shelf.old) → HasFile (H.told shelf.old) name.now → result ≢ Status.ReadFault }
     ensures words { result ≢ Status.BadWords }
 {
-    let mut buffer = match buffer_of(alloc, READ_BYTES) {
-        Ok(buffer) => buffer,
+    let mut reader = match LineReader::new(alloc, 0, MAX_SCRIPT_BYTES) {
+        Ok(reader) => reader,
         Err(_) => return Status::NoMemory,
     };
-    let mut text = Vec::new(alloc);
-    let reader = before_script::<F>(alloc);
     match shelf.begin(name) {
-        Ok(()) => play_file(reader, shelf, buffer.as_mut_slice(), &mut text, out, steps),
+        Ok(()) => play_file::<F, H, K, L>(alloc, &mut reader, shelf, out, steps),
         Err(_) => Status::ReadFault,
     }
 }
@@ -84,19 +75,12 @@ fn answer<F: PlainFloor, H: Shelf, K: Sink, L: Ledger>(
     out: &mut K,
     steps: &mut Steps<L>,
 ) -> Status
-    ensures ran { IfSome (script_told (H.told shelf.old) (texts words.now)) (λ bytes.
-        Ran bytes (seen (K.told out.old) steps.old) (seen (K.told out.new) steps.new) (H.left shelf.new) result) }
-    ensures load { (orders quotes : ℕ) → plan_of (texts words.now) ≡ Some (Load orders quotes) →
-        Loaded orders quotes (seen (K.told out.old) steps.old) (seen (K.told out.new) steps.new) result }
-    ensures words { result ≡ Status.BadWords → plan_of (texts words.now) ≡ None }
-    ensures other { plan_of (texts words.now) ≡ None →
-        ((result ≡ Status.BadWords) ⊎ (result ≡ Status.NoMemory)) × (K.told out.new ≡ K.told out.old) }
+    ensures ends { Ends (H.told shelf.old) (texts words.now) (H.left shelf.new)
+        (seen (K.told out.old) steps.old) (seen (K.told out.new) steps.new) result }
     ensures read { result ≡ Status.ReadFault → Rose (H.faults shelf.old) (H.faults shelf.new) }
     ensures write { result ≡ Status.WriteFault → Rose (K.faults out.old) (K.faults out.new) }
     ensures sure { IsTrue (H.sure shelf.old) → (name : List ℕ) → script_named (texts words.now) ≡ Some name →
         HasFile (H.told shelf.old) name → result ≢ Status.ReadFault }
-    ensures missing { LacksScript (H.told shelf.old) (texts words.now) →
-        ((result ≡ Status.ReadFault) ⊎ (result ≡ Status.NoMemory)) × (K.told out.new ≡ K.told out.old) }
     ensures read_later { H.faults shelf.old ≤ H.faults shelf.new }
     ensures write_later { K.faults out.old ≤ K.faults out.new }
 {
@@ -122,37 +106,26 @@ pub fn replay_over<F: PlainFloor, H: Shelf, K: Sink, E: Sink, L: Ledger>(
     err: &mut E,
     steps: &mut Steps<L>,
 ) -> Status
-    // The output, why it ended, and the steps: exactly what the script's bytes make, wherever the reads were cut.
-    ensures ran { IfSome (script_told (H.told shelf.old) (texts words.now)) (λ bytes.
-        Ran bytes (seen (K.told out.old) steps.old) (seen (K.told out.new) steps.new) (H.left shelf.new) result) }
+    // How the run ended, and the status once its text was put: a failed put makes a write fault of a refused line and of bad
+    // words, and leaves every other status.
+    ensures run { (ended : Status) × Ends (H.told shelf.old) (texts words.now) (H.left shelf.new)
+        (seen (K.told out.old) steps.old) (seen (K.told out.new) steps.new) ended
+        × IsTold ended result (E.told err.old) (E.told err.new) (E.faults err.old) (E.faults err.new) }
+    ensures quiet { result ≡ Status.Done → err.new ≡ err.old }
 
-    // For a load run, what the load script makes: one line, why it is not there, and the steps.
-    ensures load { (orders quotes : ℕ) → plan_of (texts words.now) ≡ Some (Load orders quotes) →
-        Loaded orders quotes (seen (K.told out.old) steps.old) (seen (K.told out.new) steps.new) result }
-
-    // Words of another form.
+    // Faults come only where a count rose, and bad words only where they have no form.
     ensures bad_words { result ≡ Status.BadWords → plan_of (texts words.now) ≡ None }
-    ensures other_words { plan_of (texts words.now) ≡ None →
-        Yields Status.BadWords result (Rose (E.faults err.old) (E.faults err.new)) × (K.told out.new ≡ K.told out.old) }
-
-    // Faults come only where a count rose.
     ensures read { result ≡ Status.ReadFault → Rose (H.faults shelf.old) (H.faults shelf.new) }
     ensures write { result ≡ Status.WriteFault →
         Rose (K.faults out.old) (K.faults out.new) ⊎ Rose (E.faults err.old) (E.faults err.new) }
     ensures sure { IsTrue (H.sure shelf.old) → (name : List ℕ) → script_named (texts words.now) ≡ Some name →
         HasFile (H.told shelf.old) name → result ≢ Status.ReadFault }
-    ensures missing { LacksScript (H.told shelf.old) (texts words.now) →
-        ((result ≡ Status.ReadFault) ⊎ (result ≡ Status.NoMemory)) × (K.told out.new ≡ K.told out.old) }
-
-    // The status's text is put once.
-    ensures text { (Rose (E.faults err.old) (E.faults err.new) → ⊥) →
-        Appends (E.told err.old) (E.told err.new) (status_text result) }
     ensures read_later { H.faults shelf.old ≤ H.faults shelf.new }
     ensures write_later { K.faults out.old ≤ K.faults out.new }
     ensures tell_later { E.faults err.old ≤ E.faults err.new }
 {
     let status = answer::<F, H, K, L>(alloc, words, shelf, out, steps);
-    tell(alloc, status, err)
+    tell(PROGRAM, status, err)
 }
 
 /// Plays what the words ask for. A script is read from the shelf, and its transcript is put to `out` line by line. A load
@@ -166,31 +139,20 @@ pub fn replay<H: Shelf, K: Sink, E: Sink, L: Ledger>(
     err: &mut E,
     steps: &mut Steps<L>,
 ) -> Status
-    // The output, why it ended, and the steps: exactly what the script's bytes make, wherever the reads were cut.
-    ensures ran { IfSome (script_told (H.told shelf.old) (texts words.now)) (λ bytes.
-        Ran bytes (seen (K.told out.old) steps.old) (seen (K.told out.new) steps.new) (H.left shelf.new) result) }
+    // How the run ended, and the status once its text was put: a failed put makes a write fault of a refused line and of bad
+    // words, and leaves every other status.
+    ensures run { (ended : Status) × Ends (H.told shelf.old) (texts words.now) (H.left shelf.new)
+        (seen (K.told out.old) steps.old) (seen (K.told out.new) steps.new) ended
+        × IsTold ended result (E.told err.old) (E.told err.new) (E.faults err.old) (E.faults err.new) }
+    ensures quiet { result ≡ Status.Done → err.new ≡ err.old }
 
-    // For a load run, what the load script makes: one line, why it is not there, and the steps.
-    ensures load { (orders quotes : ℕ) → plan_of (texts words.now) ≡ Some (Load orders quotes) →
-        Loaded orders quotes (seen (K.told out.old) steps.old) (seen (K.told out.new) steps.new) result }
-
-    // Words of another form.
+    // Faults come only where a count rose, and bad words only where they have no form.
     ensures bad_words { result ≡ Status.BadWords → plan_of (texts words.now) ≡ None }
-    ensures other_words { plan_of (texts words.now) ≡ None →
-        Yields Status.BadWords result (Rose (E.faults err.old) (E.faults err.new)) × (K.told out.new ≡ K.told out.old) }
-
-    // Faults come only where a count rose.
     ensures read { result ≡ Status.ReadFault → Rose (H.faults shelf.old) (H.faults shelf.new) }
     ensures write { result ≡ Status.WriteFault →
         Rose (K.faults out.old) (K.faults out.new) ⊎ Rose (E.faults err.old) (E.faults err.new) }
     ensures sure { IsTrue (H.sure shelf.old) → (name : List ℕ) → script_named (texts words.now) ≡ Some name →
         HasFile (H.told shelf.old) name → result ≢ Status.ReadFault }
-    ensures missing { LacksScript (H.told shelf.old) (texts words.now) →
-        ((result ≡ Status.ReadFault) ⊎ (result ≡ Status.NoMemory)) × (K.told out.new ≡ K.told out.old) }
-
-    // The status's text is put once.
-    ensures text { (Rose (E.faults err.old) (E.faults err.new) → ⊥) →
-        Appends (E.told err.old) (E.told err.new) (status_text result) }
     ensures read_later { H.faults shelf.old ≤ H.faults shelf.new }
     ensures write_later { K.faults out.old ≤ K.faults out.new }
     ensures tell_later { E.faults err.old ≤ E.faults err.new }

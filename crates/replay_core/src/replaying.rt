@@ -1,45 +1,52 @@
-//! A script read piece by piece to its end.
-ghost use Rattle.std.specs.Prelude.{◌≡◌, ◌≢◌, ◌≤◌, ◌<◌, ◌+◌, [], length, IfSome, IsTrue};
+//! A script read line by line to its end.
+ghost use Rattle.std.specs.Prelude.{◌≡◌, ◌≢◌, ◌≤◌, ◌+◌, length, IfSome, IsTrue};
 ghost use Rattle.venue_words.specs.Causes.{Rose};
-ghost use Rattle.replay_core.specs.Play.{Place, start};
-ghost use Rattle.replay_core.specs.Reading.{IsAt, fault_in};
+ghost use Rattle.venue_words.specs.declared.limits.TheConstants.{MAX_LINE_BYTES, MAX_SCRIPT_BYTES};
+ghost use Rattle.line_reader.specs.Reading.{before_lines};
+ghost use Rattle.replay_core.specs.Play.{Place};
+ghost use Rattle.replay_core.specs.Reading.{IsAtPlace, fault_in};
 ghost use Rattle.replay_core.specs.Telling.{Ran, ending, seen};
 
-use crate::pieces::{before_script, fault_at_end, play_piece};
+use crate::lines::{ScriptLine, play_line};
+use crate::phase::Phase;
 use crate::plain_floor::PlainFloor;
-use crate::reading::Reader;
-use crate::status::{Status, status_of};
+use crate::status::Status;
 use io_edge::{Shelf, Sink};
+use line_reader::{LineReader, NextLine};
+use script_text::{Header, LimitCause, LineCause};
 use std::alloc::Global;
 use std::sync::ledger::Ledger;
 use venue_words::Steps;
 
-/// The status at the end of a script.
-fn ending<F: PlainFloor>(reader: &Reader<F>) -> Status
-    ensures status { (place : Place) → IsAt F.at reader.now place → result ≡ ending (fault_in place reader.now.held) }
+/// The status at the end of a script, where these bytes stand behind its last line. `line` is the number of one more.
+#[tactic(auto, unfolding(crate::specs::Play::end_at))]
+fn ending<F: PlainFloor>(phase: &Phase<F>, line: u32, rest: &[u8]) -> Status
+    requires { length rest.now ≤ MAX_LINE_BYTES }
+    ensures status { (place : Place) → IsAtPlace F.at phase.now place → line ≡ place.lines + 1
+        → result ≡ ending (fault_in place rest.now) }
     ensures words { result ≢ Status.BadWords }
     ensures read { result ≢ Status.ReadFault }
     ensures write { result ≢ Status.WriteFault }
 {
-    match fault_at_end(reader) {
-        Some(fault) => status_of(fault),
-        None => Status::Done,
+    match phase {
+        Phase::Body(_) if rest.is_empty() => Status::Done,
+        _ => Status::BadLine {
+            line,
+            cause: LineCause::NoEnd,
+        },
     }
 }
 
-/// Reads the file that was begun to its end, piece by piece, and works its lines.
+/// Reads the file that was begun to its end, line by line, and puts the output of each line before the next is worked.
 pub fn play_file<F: PlainFloor, H: Shelf, K: Sink, L: Ledger>(
-    reader: Reader<F>,
+    alloc: Global,
+    reader: &mut LineReader,
     shelf: &mut H,
-    buffer: &mut [u8],
-    text: &mut Vec<u8>,
     out: &mut K,
     steps: &mut Steps<L>,
 ) -> Status
     requires begun { IsTrue (H.begun shelf.old) }
-    requires room { 0 < length buffer.old }
-    requires start { IsAt F.at reader start }
-    requires held { reader.held ≡ [] }
+    requires start { reader.old ≡ before_lines 0 MAX_SCRIPT_BYTES }
     ensures ran { IfSome (H.left shelf.old) (λ bytes.
         Ran bytes (seen (K.told out.old) steps.old) (seen (K.told out.new) steps.new) (H.left shelf.new) result) }
     ensures read_later { H.faults shelf.old ≤ H.faults shelf.new }
@@ -49,18 +56,33 @@ pub fn play_file<F: PlainFloor, H: Shelf, K: Sink, L: Ledger>(
     ensures sure { IsTrue (H.sure shelf.old) → result ≢ Status.ReadFault }
     ensures words { result ≢ Status.BadWords }
 {
-    let mut reader = reader;
+    let mut phase = Phase::<F>::Head(Header::new(alloc));
+    let mut text = Vec::new(alloc);
     loop {
-        let count = match shelf.pull(buffer) {
-            Ok(count) => count,
-            Err(_) => return Status::ReadFault,
-        };
-        if count == 0 {
-            return ending(&reader);
-        }
-        match play_piece(reader, &buffer[..count], text, out, steps) {
-            Ok(next) => reader = next,
-            Err(status) => return status,
+        let number = reader.lines() + 1;
+        match reader.next(shelf) {
+            NextLine::Line {
+                text: line,
+                is_over,
+            } => {
+                let line = ScriptLine {
+                    number,
+                    text: line,
+                    is_over,
+                };
+                match play_line(alloc, &mut phase, line, &mut text, out, steps) {
+                    Ok(()) => {}
+                    Err(status) => return status,
+                }
+            }
+            NextLine::End { rest } => return ending(&phase, number, rest),
+            NextLine::TooLong => {
+                return Status::LimitLine {
+                    line: number,
+                    which: LimitCause::Line,
+                };
+            }
+            NextLine::ReadFault => return Status::ReadFault,
         }
     }
 }

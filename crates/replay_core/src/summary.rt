@@ -3,7 +3,7 @@ ghost use Rattle.std.specs.Prelude.{◌≡◌, IfOk, string_bytes};
 ghost use Rattle.replay_core.specs.Summary.{counted, summary_text};
 
 use std::alloc::{AllocError, Global};
-use venue_words::{Kind, Report, Side};
+use venue_words::{Execution, Kind, Report, Side};
 
 /// What a symbol's book came to.
 #[derive(Clone, Copy, Debug, PartialEq, Eq)]
@@ -33,14 +33,20 @@ impl Summary {
         let mut shares = 0u128;
         for report in reports {
             match &report.kind {
-                Kind::Accepted(_) => accepted += 1,
-                Kind::Rejected { .. } => rejected += 1,
-                Kind::Traded { view, quantity, .. } => {
+                Kind::Order {
+                    execution: Execution::Accepted,
+                    ..
+                } => accepted += 1,
+                Kind::Order {
+                    view,
+                    execution: Execution::Traded { quantity, .. },
+                } => {
                     traded += 1;
                     if view.side == Side::Buy {
                         shares += u128::from(*quantity);
                     }
                 }
+                Kind::Rejected { .. } => rejected += 1,
                 _ => {}
             }
         }

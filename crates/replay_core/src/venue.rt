@@ -6,19 +6,16 @@ use venue_core::{PlainVenue, plain};
 use venue_words::{Config, NoMemory, Report};
 
 impl PlainFloor for PlainVenue<Book> {
-    ghost use Rattle.std.specs.Prelude.{slice_get};
-    ghost use Rattle.replay_core.specs.BookStates.{state_shown};
+    ghost use Rattle.venue_core.specs.ConfigVenues.{plain_book_state};
 
-    ghost state = { λ venue symbol. state_shown (slice_get venue.books symbol) };
+    ghost state = { plain_book_state };
 
     fn open(alloc: Global, config: &Config) -> Result<PlainVenue<Book>, NoMemory> {
         plain(alloc, HashSeed::fixed(), config)
     }
 
     fn front(&self, symbol: u32) -> u32 {
-        let book = self.book(symbol);
-        book.parts_of_setting();
-        book.front()
+        self.book(symbol).front()
     }
 
     fn events(&self, symbol: u32) -> usize {
@@ -26,20 +23,14 @@ impl PlainFloor for PlainVenue<Book> {
     }
 
     fn reports(&self, symbol: u32) -> &[Report] {
-        let book = self.book(symbol);
-        book.parts_of_setting();
-        book.reports()
+        self.book(symbol).reports()
     }
 
     fn resting(&self, symbol: u32) -> u32 {
-        let book = self.book(symbol);
-        book.parts_of_setting();
-        book.resting()
+        self.book(symbol).resting()
     }
 
     fn groups(&self, symbol: u32) -> u32 {
-        let book = self.book(symbol);
-        book.parts_of_setting();
-        book.groups()
+        self.book(symbol).groups()
     }
 }

@@ -6,7 +6,8 @@ use Rattle.std.specs.Option.{option_and_then}
 use Rattle.std.specs.Str.{bytes_eq}
 use Rattle.std.proofs.lemmas.Bool.Decides.{nat_tests}
 use Rattle.venue_words.specs.ListLaws.{all_append}
-use Rattle.venue_words.specs.Conditions.{AreNames, IsEventLimit, IsTick, IsConfig, most_events}
+use Rattle.venue_words.specs.Conditions.{AreNames, IsEventLimit, IsTick, IsConfig}
+use Rattle.venue_words.specs.declared.limits.TheConstants.{MAX_EVENTS, MAX_LINE_BYTES, MAX_NAME_BYTES}
 use Rattle.quote_intake.specs.Price.{digits_of, number_of, is_digit}
 use Rattle.quote_intake.specs.Words.{words_of}
 use Rattle.script_text.specs.declared.header.Header.{Header}
@@ -15,7 +16,7 @@ use Rattle.script_text.specs.declared.fault.LineCause.TheVariants.{BadName, Doub
 use Rattle.script_text.specs.declared.fault.LineFault.{LineFault}
 use Rattle.script_text.specs.Meets.{Meets}
 use Rattle.script_text.specs.Words.{is_name, limit_of, tick_of, script_moment}
-use Rattle.script_text.specs.Header.{Step, name_cause, unless, member_line, market_line, symbol_line, symbol_fits, symbol_numbers, symbol_words, begins, begin_line, one_word, keyed, keyed_else, keyed_line, first_line, header_line, with_header, longest_line, blank}
+use Rattle.script_text.specs.Header.{Step, name_cause, unless, member_line, market_line, symbol_line, symbol_fits, symbol_numbers, symbol_words, begins, begin_line, one_word, keyed, keyed_else, keyed_line, first_line, header_line, with_header, blank}
 
 both_false : (a b : Bool) → (a || b) ≡ false → (a ≡ false) × (b ≡ false)
 both_false true b e = cc
@@ -31,7 +32,7 @@ distinct_more same (old ∷ keys) key d e =
     let parts = both_false (same old key) (list_any (λ old. same old key) keys) e in
     (all_append (λ other. same old other ≡ false) keys (key ∷ []) d.0 (parts.0, tt), distinct_more same keys key d.1 parts.1)
 
-lengths_of : (name : List ℕ) → is_name name ≡ true → (1 ≤ length name) × (length name ≤ 16)
+lengths_of : (name : List ℕ) → is_name name ≡ true → (1 ≤ length name) × (length name ≤ MAX_NAME_BYTES)
 unfolding is_name
 lengths_of name e = (grind (arith, nat_tests), grind (arith, nat_tests))
 
@@ -64,7 +65,7 @@ first_counts [] h e f = absurd (omega arith)
 first_counts (digit ∷ digits) h e f = grows digits (0 * 10 + (digit - 48)) (grind (arith, nat_tests))
 
 ranged : (read : Option ℕ) (limit : ℕ) → ((value : ℕ) → read ≡ Some value → 1 ≤ value)
-    → option_and_then (λ limit. if nat_le limit most_events then Some limit else None) read ≡ Some limit → IsEventLimit limit
+    → option_and_then (λ limit. if nat_le limit MAX_EVENTS then Some limit else None) read ≡ Some limit → IsEventLimit limit
 ranged None limit h e = cc
 ranged (Some value) limit h e =
     let least : 1 ≤ value = h value refl in
@@ -81,7 +82,7 @@ digits_count false text value e h f s = cc
 limit_cases : (empty long zero : Bool) (text : List ℕ) (limit : ℕ) → (length text == 0) ≡ empty → nat_lt 7 (length text) ≡ long
     → (slice_index text 0 == 48) ≡ zero
     → (if empty || (long || zero) then None
-    else option_and_then (λ limit. if nat_le limit most_events then Some limit else None) (digits_of text)) ≡ Some limit
+    else option_and_then (λ limit. if nat_le limit MAX_EVENTS then Some limit else None) (digits_of text)) ≡ Some limit
     → IsEventLimit limit
 unfolding digits_of
 limit_cases true long zero text limit e f g s = cc
@@ -165,7 +166,7 @@ fits_kept : (n : ℕ) (header : Header) (name : List ℕ) (limit tick : ℕ) →
     → name_cause header.config.symbols name ≡ None → IsEventLimit limit → IsTick tick → Keeps (symbol_fits n header name limit tick)
 fits_kept n header name limit tick config new fits one =
     keeps_room (nat_le 256 (length header.config.symbols)) _ _ tt (λ room.
-    keeps_if (nat_lt most_events (sum header.config.limits + limit)) _ _ tt (record {
+    keeps_if (nat_lt MAX_EVENTS (sum header.config.limits + limit)) _ _ tt (record {
       members = config.members;
       markets = config.markets;
       symbols = names_more header.config.symbols name config.symbols new;
@@ -249,7 +250,7 @@ first_kept header text config =
 line_kept : (n : ℕ) (header : Header) (text : List ℕ) → IsConfig header.config → Keeps (header_line n header text)
 unfolding header_line
 line_kept n header text config =
-    keeps_if (nat_lt longest_line (length text)) _ _ tt
+    keeps_if (nat_lt MAX_LINE_BYTES (length text)) _ _ tt
     (keeps_if (n == 1) _ _ (first_kept header text config) (keyed_line_kept n header (words_of text) config))
 
 kept : (step : Step) (whole : Bool) (next : Header) → Keeps step → step ≡ Ok (whole, next) → IsConfig next.config

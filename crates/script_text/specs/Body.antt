@@ -3,6 +3,7 @@ use Rattle.std.specs.Prelude.{ℕ, ◌<◌, ◌≡◌, true, List, [], ◌∷◌
 use Rattle.std.specs.Option.{ok_or}
 use Rattle.std.specs.List.{ends_with}
 use Rattle.std.specs.Str.{bytes_eq}
+use Rattle.venue_words.specs.declared.limits.TheConstants.{MAX_LINE_BYTES}
 use Rattle.venue_words.specs.declared.config.Config.{Config}
 use Rattle.venue_words.specs.declared.command.Command.{Command}
 use Rattle.venue_words.specs.Conditions.{fits_limits}
@@ -20,7 +21,6 @@ use Rattle.script_text.specs.declared.fault.LineCause.{LineCause}
 use Rattle.script_text.specs.declared.fault.LineCause.TheVariants.{BadWord, UnknownName, BadPrice, BadMoment, BadText}
 use Rattle.script_text.specs.declared.fault.LimitCause.TheVariants as limit
 use Rattle.script_text.specs.Escaping.{text_of}
-use Rattle.script_text.specs.Header.{longest_line}
 use Rattle.script_text.specs.Words.{script_moment, behind_word}
 
 -- what a line says, or the first cause why it is refused
@@ -91,7 +91,7 @@ at_line n (Err cause) = Err (Bad n cause)
 
 -- the answer to a line: its length is tested first
 unfoldable pub read_of : Config → List ℕ → Result Line LineFault
-read_of config text = if nat_lt longest_line (length text) then Err (Limit 1 limit.Line) else at_line 1 (line_of config text)
+read_of config text = if nat_lt MAX_LINE_BYTES (length text) then Err (Limit 1 limit.Line) else at_line 1 (line_of config text)
 
 -- what a line names is configured, and its quote keeps to the limits
 pub record IsQuoteOf (config : Config) (symbol : ℕ) (command : Command) : Type 0 where

@@ -1,12 +1,13 @@
 -- What a config says: a header alone.
 use Rattle.std.specs.Prelude.{ℕ, ◌+◌, List, [], ◌∷◌, length, Result, Ok, Err, nat_lt, if◌then◌else◌}
+use Rattle.venue_words.specs.declared.limits.TheConstants.{MAX_LINE_BYTES}
 use Rattle.venue_words.specs.declared.config.Config.{Config}
 use Rattle.script_text.specs.declared.header.Header.{Header}
 use Rattle.script_text.specs.declared.fault.LineFault.{LineFault}
 use Rattle.script_text.specs.declared.fault.LineFault.TheVariants.{Bad, Limit}
 use Rattle.script_text.specs.declared.fault.LineCause.TheVariants.{NoEnd, BadHeader}
 use Rattle.script_text.specs.declared.fault.LimitCause.TheVariants.{Line}
-use Rattle.script_text.specs.Header.{Step, header_line, blank, longest_line}
+use Rattle.script_text.specs.Header.{Step, header_line, blank}
 use Rattle.script_text.specs.Lines.{cut}
 
 abbrev pub Answer : Type 0
@@ -14,11 +15,11 @@ Answer = Result (Config × ℕ) LineFault
 
 -- the n-th line has no end
 abbrev pub unended : ℕ → List ℕ → LineFault
-unended n rest = if nat_lt longest_line (length rest) then Limit n Line else Bad n NoEnd
+unended n rest = if nat_lt MAX_LINE_BYTES (length rest) then Limit n Line else Bad n NoEnd
 
 -- the n-th line is one too many
 abbrev pub unwanted : ℕ → List ℕ → LineFault
-unwanted n line = if nat_lt longest_line (length line) then Limit n Line else Bad n BadHeader
+unwanted n line = if nat_lt MAX_LINE_BYTES (length line) then Limit n Line else Bad n BadHeader
 
 -- a header of n lines, with what stands behind it
 abbrev pub whole_of : ℕ → Config → List (List ℕ) → List ℕ → Answer

@@ -10,7 +10,7 @@ use Rattle.script_text.specs.declared.fault.LineCause.{LineCause}
 use Rattle.script_text.specs.declared.fault.LineCause.TheVariants.{BadHeader, BadWord, BadName, DoubleName, BadNumber, BadTick, BadMoment}
 use Rattle.script_text.specs.declared.fault.LimitCause.{LimitCause}
 use Rattle.script_text.specs.declared.fault.LimitCause.TheVariants.{Line, Members, Markets, Symbols, EventsSum}
-use Rattle.venue_words.specs.Conditions.{most_events}
+use Rattle.venue_words.specs.declared.limits.TheConstants.{MAX_EVENTS, MAX_LINE_BYTES, MAX_MARKETS, MAX_MEMBERS, MAX_SYMBOLS}
 use Rattle.quote_intake.specs.Words.{words_of}
 use Rattle.script_text.specs.Words.{is_name, limit_of, tick_of, script_moment}
 
@@ -57,18 +57,18 @@ with_symbol header name limit tick = with_config header (record header.config {
 
 unfoldable pub member_line : ℕ → Header → List ℕ → Step
 member_line n header name = unless n (name_cause header.config.members name)
-    (if nat_le 256 (length header.config.members) then past n Members
+    (if nat_le MAX_MEMBERS (length header.config.members) then past n Members
     else goes_on (with_member header name))
 
 unfoldable pub market_line : ℕ → Header → List ℕ → Step
 market_line n header name = unless n (name_cause header.config.markets name)
-    (if nat_le 32 (length header.config.markets) then past n Markets
+    (if nat_le MAX_MARKETS (length header.config.markets) then past n Markets
     else goes_on (with_market header name))
 
 abbrev pub symbol_fits : ℕ → Header → List ℕ → ℕ → ℕ → Step
 symbol_fits n header name limit tick =
-    if nat_le 256 (length header.config.symbols) then past n Symbols
-    else if nat_lt most_events (sum header.config.limits + limit) then past n EventsSum
+    if nat_le MAX_SYMBOLS (length header.config.symbols) then past n Symbols
+    else if nat_lt MAX_EVENTS (sum header.config.limits + limit) then past n EventsSum
     else goes_on (with_symbol header name limit tick)
 
 abbrev pub symbol_numbers : ℕ → Header → List ℕ → Option ℕ → Option ℕ → Step
@@ -124,13 +124,9 @@ first_line header text = if bytes_eq text (codes "PEGV 1") then goes_on (with_ve
     else if bytes_eq text (codes "PEGV 2") then goes_on (with_version header 2)
     else refused 1 BadHeader
 
--- the most bytes of a line before its LF
-abbrev pub longest_line : ℕ
-longest_line = 16384
-
 -- the n-th line of a header
 unfoldable pub header_line : ℕ → Header → List ℕ → Step
-header_line n header text = if nat_lt longest_line (length text) then past n Line
+header_line n header text = if nat_lt MAX_LINE_BYTES (length text) then past n Line
     else if n == 1 then first_line header text else keyed_line n header (words_of text)
 
 -- an answer with the header after the call

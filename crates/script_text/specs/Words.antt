@@ -2,7 +2,7 @@
 use Rattle.std.specs.Prelude.{ℕ, ◌+◌, ◌&&◌, ◌||◌, ◌==◌, Bool, List, length, Option, Some, None, nat_lt, nat_le, option_and_then, if◌then◌else◌, codes, slice_index, drop, ℤ}
 use Rattle.std.specs.List.{list_all}
 use Rattle.std.specs.Str.{bytes_eq}
-use Rattle.venue_words.specs.Conditions.{most_events}
+use Rattle.venue_words.specs.declared.limits.TheConstants.{MAX_EVENTS, MAX_NAME_BYTES}
 use Rattle.quote_intake.specs.Price.{is_digit, digits_of}
 use Rattle.fix_fields.specs.Forms.{moment_of}
 
@@ -13,16 +13,16 @@ is_letter b = (nat_le 65 b && nat_le b 90) || (nat_le 97 b && nat_le b 122)
 unfoldable pub is_name_byte : ℕ → Bool
 is_name_byte b = is_letter b || (is_digit b || (b == 46 || b == 95))
 
--- 1 to 16 bytes, the first of them a letter
+-- bytes within the limit, at least one, the first of them a letter
 unfoldable pub is_name : List ℕ → Bool
-is_name text = nat_lt 0 (length text) && (nat_le (length text) 16
+is_name text = nat_lt 0 (length text) && (nat_le (length text) MAX_NAME_BYTES
     && (is_letter (slice_index text 0) && list_all is_name_byte text))
 
 -- a number from 1 to 2,097,152, without a leading zero
 unfoldable pub limit_of : List ℕ → Option ℕ
 limit_of text =
     if (length text == 0) || (nat_lt 7 (length text) || (slice_index text 0 == 48)) then None
-    else option_and_then (λ limit. if nat_le limit most_events then Some limit else None) (digits_of text)
+    else option_and_then (λ limit. if nat_le limit MAX_EVENTS then Some limit else None) (digits_of text)
 
 -- the units of a tick
 unfoldable pub tick_of : List ℕ → Option ℕ

@@ -1,5 +1,6 @@
 //! The lines of a body.
 ghost use Rattle.std.specs.Prelude.{◌≡◌, ◌<◌, ◌≤◌, ◌^◌, ◌∷◌, [], map, length, option_map, IfOk, IfSome, OnOk};
+ghost use Rattle.venue_words.specs.declared.limits.TheConstants.{MAX_MARKETS, MAX_MEMBERS, MAX_SYMBOLS};
 ghost use Rattle.quote_intake.specs.Words.{words_of};
 ghost use Rattle.quote_intake.specs.Quote.{number_in};
 ghost use Rattle.script_text.specs.Meets.{Meets};
@@ -8,11 +9,11 @@ ghost use Rattle.script_text.specs.Body.{moment_line, quote_line, quote_cause, p
 
 use crate::escaping::unescape;
 use crate::fault::{LimitCause, LineCause, LineFault};
-use crate::lines::MAX_LINE_BYTES;
 use crate::words::{cut_word, script_moment};
 use fix_write::wrap;
 use quote_intake::{QuoteFault, read_quote};
 use std::alloc::Global;
+use venue_words::limits::MAX_LINE_BYTES;
 use venue_words::{Bytes, Command, Config, NoMemory};
 
 /// What a line of a body says.
@@ -54,8 +55,8 @@ fn quote_cause(fault: QuoteFault) -> LineCause
 
 /// Reads what stands behind `Q `.
 fn quote_line(words: &[u8], config: &Config) -> Result<Line, LineCause>
-    requires symbols { length config.now.symbols ≤ 256 }
-    requires markets { length config.now.markets ≤ 32 }
+    requires symbols { length config.now.symbols ≤ MAX_SYMBOLS }
+    requires markets { length config.now.markets ≤ MAX_MARKETS }
     ensures line { result ≡ quote_line config.now (words_of words.now) }
     ensures configured { IfOk result (IsLineOf config.now) }
 {
@@ -75,7 +76,7 @@ fn number_in(names: &[Bytes], name: &[u8]) -> Option<usize>
 
 /// The number of a member's name.
 fn member_number(name: &[u8], config: &Config) -> Option<u32>
-    requires { length config.now.members ≤ 256 }
+    requires { length config.now.members ≤ MAX_MEMBERS }
     ensures value { result ≡ number_in config.now.members name.now }
     ensures within { IfSome result (λ member. member < length config.now.members) }
 {
@@ -88,7 +89,7 @@ fn member_number(name: &[u8], config: &Config) -> Option<u32>
 /// Reads what stands behind `O `.
 #[tactic(auto, using(crate::proofs::Bodies::open_more))]
 fn open_line(words: &[u8], config: &Config) -> Result<Line, LineCause>
-    requires { length config.now.members ≤ 256 }
+    requires { length config.now.members ≤ MAX_MEMBERS }
     ensures line { result ≡ open_line config.now (words_of words.now) }
     ensures configured { IfOk result (IsLineOf config.now) }
 {
@@ -148,7 +149,7 @@ fn refused(cause: LineCause) -> Result<Line, LineFault>
 /// Reads what stands behind `M `.
 #[tactic(auto, using(crate::proofs::Bodies::piece_more))]
 fn message_line(alloc: Global, words: &[u8], config: &Config) -> Result<Line, LineFault>
-    requires { length config.now.members ≤ 256 }
+    requires { length config.now.members ≤ MAX_MEMBERS }
     ensures line { Meets (at_line 1 (piece_line message_of config.now (words_of words.now) words.now)) result }
     ensures configured { IfOk result (IsLineOf config.now) }
 {
@@ -164,7 +165,7 @@ fn message_line(alloc: Global, words: &[u8], config: &Config) -> Result<Line, Li
 /// Reads what stands behind `B `.
 #[tactic(auto, using(crate::proofs::Bodies::piece_more))]
 fn bytes_line(alloc: Global, words: &[u8], config: &Config) -> Result<Line, LineFault>
-    requires { length config.now.members ≤ 256 }
+    requires { length config.now.members ≤ MAX_MEMBERS }
     ensures line { Meets (at_line 1 (piece_line text_of config.now (words_of words.now) words.now)) result }
     ensures configured { IfOk result (IsLineOf config.now) }
 {
@@ -180,9 +181,9 @@ fn bytes_line(alloc: Global, words: &[u8], config: &Config) -> Result<Line, Line
 /// Reads a line by its first word and what stands behind that.
 #[tactic(auto, unfolding(crate::specs::Body::keyed_body))]
 fn keyed(alloc: Global, key: &[u8], words: &[u8], config: &Config) -> Result<Line, LineFault>
-    requires members { length config.now.members ≤ 256 }
-    requires symbols { length config.now.symbols ≤ 256 }
-    requires markets { length config.now.markets ≤ 32 }
+    requires members { length config.now.members ≤ MAX_MEMBERS }
+    requires symbols { length config.now.symbols ≤ MAX_SYMBOLS }
+    requires markets { length config.now.markets ≤ MAX_MARKETS }
     ensures line { Meets (at_line 1 (keyed_body config.now key.now (words_of words.now) words.now)) result }
     ensures configured { IfOk result (IsLineOf config.now) }
 {
@@ -207,9 +208,9 @@ fn keyed(alloc: Global, key: &[u8], words: &[u8], config: &Config) -> Result<Lin
 /// judged by the caller.
 #[tactic(auto, unfolding(crate::specs::Body::read_of, crate::specs::Body::line_of), using(crate::proofs::Bodies::key_alone))]
 pub fn read_line(alloc: Global, text: &[u8], config: &Config) -> Result<Line, LineFault>
-    requires members { length config.now.members ≤ 256 }
-    requires symbols { length config.now.symbols ≤ 256 }
-    requires markets { length config.now.markets ≤ 32 }
+    requires members { length config.now.members ≤ MAX_MEMBERS }
+    requires symbols { length config.now.symbols ≤ MAX_SYMBOLS }
+    requires markets { length config.now.markets ≤ MAX_MARKETS }
     ensures line { Meets (read_of config.now text.now) result }
     ensures configured { IfOk result (IsLineOf config.now) }
 {

@@ -8,13 +8,14 @@ ghost use Rattle.script_text.specs.Config.{unended, behind_text, config_of};
 
 use crate::fault::{LimitCause, LineCause, LineFault};
 use crate::header::Header;
-use crate::lines::{MAX_LINE_BYTES, cut_line};
+use crate::lines::cut_line;
 use std::alloc::Global;
 use venue_words::Config;
+use venue_words::limits::MAX_LINE_BYTES;
 
 /// A line that is too long, or else one with this cause.
 fn bad_line(line: u32, text: &[u8], cause: LineCause) -> LineFault
-    ensures { result ≡ (if nat_lt 16384 (length text.now) then Limit line Line else Bad line cause) }
+    ensures { result ≡ (if nat_lt MAX_LINE_BYTES (length text.now) then Limit line Line else Bad line cause) }
 {
     if text.len() > MAX_LINE_BYTES {
         LineFault::Limit {

@@ -5,9 +5,7 @@ ghost use Rattle.script_text.specs.Escaping.{hexadecimal, is_plain, is_plain_or,
 
 use std::alloc::{AllocError, Global};
 use venue_words::NoMemory;
-
-/// The byte that ends a field.
-const SOH: u8 = 1;
+use venue_words::limits::SOH;
 
 fn hexadecimal(digit: u8) -> u8
     requires { digit < 16 }

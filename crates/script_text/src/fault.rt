@@ -1,8 +1,9 @@
 //! Why a line of a script, a config or a feed is refused.
-ghost use Rattle.std.specs.Prelude.{◌≡◌};
+ghost use Rattle.std.specs.Prelude.{◌≡◌, ◌≤◌, Some, length};
 ghost use Rattle.script_text.specs.declared.fault.LineFault.TheVariants.{NoMemory as memory};
 
 use std::alloc::{AllocError, AllocFailed};
+use std::fmt;
 use venue_words::NoMemory;
 
 /// Why a line is outside the grammar. Causes are judged in this order, and within one cause the words of
@@ -52,6 +53,73 @@ pub enum LimitCause {
     EventsSum,
     /// The events of one symbol: a command of the line came to a book that holds its limit.
     Events,
+}
+
+impl LineCause {
+    ghost use Rattle.script_text.specs.Causes.{cause_name};
+
+    /// Its name, as programs tell it.
+    #[tactic(auto, unfolding(crate::specs::Causes::cause_name))]
+    pub fn name(self) -> &'static str
+        ensures name { result.now ≡ cause_name self }
+        ensures short { length result.now ≤ 16 }
+    {
+        match self {
+            LineCause::NoEnd => "NoEnd",
+            LineCause::BadHeader => "BadHeader",
+            LineCause::BadWord => "BadWord",
+            LineCause::BadName => "BadName",
+            LineCause::DoubleName => "DoubleName",
+            LineCause::UnknownName => "UnknownName",
+            LineCause::BadNumber => "BadNumber",
+            LineCause::BadTick => "BadTick",
+            LineCause::BadPrice => "BadPrice",
+            LineCause::BadMoment => "BadMoment",
+            LineCause::BadText => "BadText",
+            LineCause::SharedMember => "SharedMember",
+        }
+    }
+}
+
+impl fmt::Display for LineCause {
+    ghost use Rattle.script_text.specs.Causes.{cause_name};
+
+    ghost output = { λ cause. Some (cause_name cause) };
+
+    fn fmt<W: fmt::Write>(&self, f: &mut fmt::Formatter<W>) -> fmt::Result {
+        f.write_str(self.name())
+    }
+}
+
+impl LimitCause {
+    ghost use Rattle.script_text.specs.Causes.{limit_name};
+
+    /// Its name, as programs tell it.
+    #[tactic(auto, unfolding(crate::specs::Causes::limit_name))]
+    pub fn name(self) -> &'static str
+        ensures name { result.now ≡ limit_name self }
+        ensures short { length result.now ≤ 16 }
+    {
+        match self {
+            LimitCause::Line => "Line",
+            LimitCause::Bytes => "Bytes",
+            LimitCause::Members => "Members",
+            LimitCause::Markets => "Markets",
+            LimitCause::Symbols => "Symbols",
+            LimitCause::EventsSum => "EventsSum",
+            LimitCause::Events => "Events",
+        }
+    }
+}
+
+impl fmt::Display for LimitCause {
+    ghost use Rattle.script_text.specs.Causes.{limit_name};
+
+    ghost output = { λ which. Some (limit_name which) };
+
+    fn fmt<W: fmt::Write>(&self, f: &mut fmt::Formatter<W>) -> fmt::Result {
+        f.write_str(self.name())
+    }
 }
 
 /// Why a line was refused. Lines are counted from 1.

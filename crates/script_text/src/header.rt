@@ -3,13 +3,13 @@ ghost use Rattle.std.specs.Prelude.{◌≡◌, ◌<◌, ◌≤◌, ◌^◌, ◌+
 ghost use Rattle.std.specs.List.{list_any};
 ghost use Rattle.std.specs.Str.{bytes_eq};
 ghost use Rattle.script_text.specs.Meets.{Meets};
-ghost use Rattle.venue_words.specs.Conditions.{most_events, IsConfig};
+ghost use Rattle.venue_words.specs.Conditions.{IsConfig};
 ghost use Rattle.script_text.specs.Words.{is_name, limit_of, tick_of, script_moment};
 
 use crate::fault::{LimitCause, LineCause, LineFault};
-use crate::lines::MAX_LINE_BYTES;
-use crate::words::{MAX_EVENTS, is_name, limit_of, script_moment, tick_of, words_of};
+use crate::words::{is_name, limit_of, script_moment, tick_of, words_of};
 use std::alloc::Global;
+use venue_words::limits::{MAX_EVENTS, MAX_LINE_BYTES, MAX_MARKETS, MAX_MEMBERS, MAX_SYMBOLS};
 use venue_words::{Bytes, Config, Items};
 
 /// The header of a script as far as it was read.
@@ -33,7 +33,7 @@ fn stood_before(names: &[Bytes], name: &[u8]) -> bool
 
 /// Whether the limits and one more stay within the greatest sum.
 fn limits_fit(limits: &[u32], limit: u32) -> bool
-    ensures { result ≡ not (nat_lt most_events (sum limits.now + limit)) }
+    ensures { result ≡ not (nat_lt MAX_EVENTS (sum limits.now + limit)) }
 {
     let mut sum = u64::from(limit);
     for old in limits {
@@ -84,7 +84,7 @@ impl Header {
         if let Some(cause) = Self::name_cause(self.config.members.as_slice(), name) {
             return Err(LineFault::Bad { line, cause });
         }
-        if self.config.members.len() >= 256 {
+        if self.config.members.len() >= MAX_MEMBERS {
             return Err(LineFault::Limit {
                 line,
                 which: LimitCause::Members,
@@ -101,7 +101,7 @@ impl Header {
         if let Some(cause) = Self::name_cause(self.config.markets.as_slice(), name) {
             return Err(LineFault::Bad { line, cause });
         }
-        if self.config.markets.len() >= 32 {
+        if self.config.markets.len() >= MAX_MARKETS {
             return Err(LineFault::Limit {
                 line,
                 which: LimitCause::Markets,
@@ -122,7 +122,7 @@ impl Header {
     ) -> Result<bool, LineFault>
         ensures { Meets (symbol_fits line self.old name.now limit tick) (with_header result self.new) }
     {
-        if self.config.symbols.len() >= 256 {
+        if self.config.symbols.len() >= MAX_SYMBOLS {
             return Err(LineFault::Limit {
                 line,
                 which: LimitCause::Symbols,

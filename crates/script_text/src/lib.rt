@@ -15,7 +15,7 @@ pub use config::read_header;
 pub use escaping::{escape, push_escaped_text, unescape};
 pub use fault::{LimitCause, LineCause, LineFault};
 pub use header::Header;
-pub use lines::{MAX_LINE_BYTES, cut_line};
+pub use lines::{cut_line, first_end};
 pub use load::load_line;
 
 #[cfg(test)]

@@ -7,9 +7,7 @@ ghost use Rattle.script_text.specs.Words.{is_name, limit_of, tick_of, script_mom
 use fix_fields::moment;
 use quote_intake::{digits, first_space};
 use std::alloc::{AllocError, Global};
-
-/// The greatest number of events of a symbol, and of all symbols.
-pub const MAX_EVENTS: u32 = 2_097_152;
+use venue_words::limits::{MAX_EVENTS, MAX_NAME_BYTES};
 
 /// The first word of a line and what stands behind its space, or none where the line has one word.
 pub fn cut_word(line: &[u8]) -> Option<(&[u8], &[u8])>
@@ -67,7 +65,7 @@ fn are_name_bytes(text: &[u8]) -> bool
 pub fn is_name(text: &[u8]) -> bool
     ensures { result ≡ is_name text.now }
 {
-    0 < text.len() && (text.len() <= 16 && (is_letter(text[0]) && are_name_bytes(text)))
+    0 < text.len() && (text.len() <= MAX_NAME_BYTES && (is_letter(text[0]) && are_name_bytes(text)))
 }
 
 /// The limit that a text writes.

@@ -1,5 +1,6 @@
 -- What each frame and each tick asks of a session that has not ended. The first case that fits decides.
 use Rattle.std.specs.Prelude.{ℕ, ◌*◌, ◌==◌, Bool, not, ◌&&◌, if◌then◌else◌, List, [], ◌∷◌, codes, ℤ, pos, ◌-ℤ◌, int_le, true}
+use Rattle.venue_words.specs.Limits.{venue}
 use Rattle.fix_write.specs.declared.tags.TheConstants.{SENDER_COMP_ID, TARGET_COMP_ID}
 use Rattle.session_core.specs.declared.message.Incoming.{Incoming}
 use Rattle.session_core.specs.declared.state.EndCause.TheVariants.{NoNumber, Silent, TooLong}
@@ -21,7 +22,7 @@ on_no_number state = drops state NoNumber (codes "NO NUMBER")
 unfoldable pub on_message : List ℕ → ℕ → State → Incoming → Plan
 on_message member sent state incoming =
     if not (is_value SENDER_COMP_ID member incoming.fields) then drops_wrong_name state incoming SENDER_COMP_ID
-    else (if not (is_value TARGET_COMP_ID (codes "PEGV") incoming.fields)
+    else (if not (is_value TARGET_COMP_ID venue incoming.fields)
     then drops_wrong_name state incoming TARGET_COMP_ID
     else (if is_up state then when_up state incoming sent else before_logon state incoming))
 

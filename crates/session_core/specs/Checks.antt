@@ -2,6 +2,7 @@
 use Rattle.std.specs.Prelude.{ℕ, ◌==◌, Bool, true, false, not, ◌&&◌, ◌||◌, nat_lt, if◌then◌else◌, List, [], ◌∷◌, ◌++◌, length, Option, Some, None, is_some, is_none, option_map, codes, bytes_eq}
 use Rattle.std.specs.Option.{option_map_or}
 use Rattle.std.specs.List.{find, list_any}
+use Rattle.venue_words.specs.declared.limits.TheConstants.{MAX_ID_BYTES}
 use Rattle.fix_fields.specs.declared.field.Field.{Field}
 use Rattle.fix_fields.specs.Forms.{number_of, amount_of, moment_of}
 use Rattle.session_core.specs.declared.reasons.TheConstants.{TAG_MISSING, TAG_REPEATED, VALUE_MISSING, VALUE_OUT_OF_FORM, VALUE_OUT_OF_RANGE}
@@ -64,7 +65,7 @@ first_outside items fields = tag_of_item (find (is_outside fields) items)
 
 -- whether a value is longer than its form allows: an identifier has at most 64 bytes
 abbrev pub is_longer : Form → List ℕ → Bool
-is_longer Identifier bytes = nat_lt 64 (length bytes)
+is_longer Identifier bytes = nat_lt MAX_ID_BYTES (length bytes)
 is_longer Number bytes = false
 is_longer Amount bytes = false
 is_longer Byte bytes = false

@@ -1,5 +1,6 @@
 -- The frames of messages with new numbers, and what is kept of these.
 use Rattle.std.specs.Prelude.{ℕ, ◌+◌, List, [], ◌∷◌, length, map, replicate, Option, Some, None, codes, ℤ}
+use Rattle.venue_words.specs.Limits.{venue}
 use Rattle.fix_write.specs.Framing.{frame_of}
 use Rattle.session_core.specs.declared.message.Kept.{Kept}
 use Rattle.session_core.specs.declared.message.Message.{Message}
@@ -7,7 +8,7 @@ use Rattle.session_core.specs.declared.message.Message.{Message}
 -- the frame of a message to a member
 unfoldable pub new_frame : List ℕ → ℤ → ℕ → Message → List ℕ
 new_frame member moment number message =
-    frame_of message.kind (codes "PEGV") member number moment None message.body
+    frame_of message.kind venue member number moment None message.body
 
 -- the frames of messages, numbered from this number on
 unfoldable pub new_frames : List ℕ → ℤ → ℕ → List Message → List (List ℕ)

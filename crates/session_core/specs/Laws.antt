@@ -16,6 +16,7 @@ use Rattle.session_core.specs.Lookup.{message_number, kind_of, is_yes}
 use Rattle.session_core.specs.Content.{content_of}
 use Rattle.session_core.specs.Machine.{Machine, IsUp, IsOver, rests, on_frame}
 use Rattle.session_core.specs.Runs.{Follows, outcome_of}
+use Rattle.session_core.specs.Alike.{AreAlike, GiveAlike, is_sent}
 
 -- a message has another number than the one that is to come, and is no SequenceReset that sets it
 abbrev pub is_astray : ℕ → List Field → Bool
@@ -60,3 +61,13 @@ abbrev pub SentStays : Type 0
 SentStays =
     (machine : Machine) (input : Input) → IsUp machine →
     (more : List (Option Kept)) × ((outcome_of machine input).machine.sent ≡ machine.sent ++ more)
+
+-- sessions of one member that differ only in what they sent go on so: every input makes alike sessions of them, by which
+-- the same is handed out and the same ends
+abbrev pub AlikeStay : Type 0
+AlikeStay = (a b : Machine) (input : Input) → AreAlike a b → GiveAlike (outcome_of a input) (outcome_of b input)
+
+-- they also go on so where one of them alone is asked to send something
+abbrev pub SendingIsAlike : Type 0
+SendingIsAlike =
+    (a b : Machine) (input : Input) → is_sent input ≡ true → AreAlike a b → AreAlike (outcome_of a input).machine b

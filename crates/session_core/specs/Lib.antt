@@ -1,3 +1,6 @@
+pub mod Alike
+pub mod AlikeLaws
+pub mod AlikePlans
 pub mod Answers
 pub mod Bodies
 pub mod Cases

@@ -1,7 +1,7 @@
 -- The machine over whole lists of inputs.
 use Rattle.std.specs.Prelude.{◌≡◌, ◌≤◌, ℕ, not, if◌then◌else◌, List, [], ◌∷◌, length, Result, Ok, Err, IsTrue, ℤ}
+use Rattle.venue_words.specs.declared.limits.TheConstants.{MAX_FRAME_BYTES}
 use Rattle.venue_words.specs.declared.refusal.NoMemory.{NoMemory}
-use Rattle.fix_fields.specs.declared.field.TheConstants.{LONGEST_FRAME}
 use Rattle.session_core.specs.declared.message.Message.{Message}
 use Rattle.session_core.specs.declared.runs.Input.{Input}
 use Rattle.session_core.specs.declared.runs.Input.TheVariants.{Connection, Frame, TooLong, Tick, Send, Reject}
@@ -12,7 +12,7 @@ use Rattle.session_core.specs.Machine.{Machine, Outcome, rests, connected, given
 -- a frame is not too long
 abbrev pub IsShort : Input → Type 0
 IsShort Connection = Unit {0}
-IsShort (Frame frame moment) = length frame ≤ LONGEST_FRAME
+IsShort (Frame frame moment) = length frame ≤ MAX_FRAME_BYTES
 IsShort (TooLong moment) = Unit {0}
 IsShort (Tick moment) = Unit {0}
 IsShort (Send messages moment) = Unit {0}

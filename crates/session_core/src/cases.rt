@@ -14,6 +14,7 @@ use crate::state::{EndCause, State, is_up};
 use crate::tags::{SENDER_COMP_ID, TARGET_COMP_ID};
 use std::alloc::Global;
 use venue_words::NoMemory;
+use venue_words::limits::VENUE;
 
 /// What a message of a number asks of a member's session, where `sent` is the last number that was sent.
 #[tactic(auto, unfolding(crate::specs::Cases::on_message))]
@@ -32,7 +33,7 @@ pub fn on_message(
     if !is_value(SENDER_COMP_ID, member, fields) {
         return drops_wrong_name(alloc, state, incoming, SENDER_COMP_ID);
     }
-    if !is_value(TARGET_COMP_ID, b"PEGV", fields) {
+    if !is_value(TARGET_COMP_ID, VENUE, fields) {
         return drops_wrong_name(alloc, state, incoming, TARGET_COMP_ID);
     }
     if is_up(state) {

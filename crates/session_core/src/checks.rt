@@ -8,6 +8,7 @@ use crate::reasons::{
 };
 use crate::tags::{MSG_SEQ_NUM, MSG_TYPE, SENDER_COMP_ID, TARGET_COMP_ID};
 use fix_fields::{Field, amount, moment, number};
+use venue_words::limits::MAX_ID_BYTES;
 
 /// How the value of a tag may look.
 #[derive(Clone, Copy, Debug, PartialEq, Eq)]
@@ -139,7 +140,7 @@ fn is_long(item: Item, fields: &[Field]) -> bool
     ensures { result ≡ is_long fields.now item }
 {
     match (item.form, value_of(item.tag, fields)) {
-        (Form::Identifier, Some(bytes)) => 64 < bytes.len(),
+        (Form::Identifier, Some(bytes)) => MAX_ID_BYTES < bytes.len(),
         _ => false,
     }
 }

@@ -5,6 +5,7 @@ ghost use Rattle.session_core.specs.Frames.{new_frame, new_frames, all_kept, num
 use crate::message::{Entry, Message};
 use fix_write::{Head, frame};
 use std::alloc::Global;
+use venue_words::limits::VENUE;
 use venue_words::{Bytes, NoMemory};
 
 /// The frame of a message of a type and a body to a member.
@@ -20,7 +21,7 @@ pub fn new_frame(
 {
     let head = Head {
         kind: message.kind,
-        sender: b"PEGV",
+        sender: VENUE,
         target: member,
         number,
         moment,

@@ -8,6 +8,7 @@ use crate::message_types::SEQUENCE_RESET;
 use crate::plan::Span;
 use fix_write::{Head, frame};
 use std::alloc::Global;
+use venue_words::limits::VENUE;
 use venue_words::{Bytes, NoMemory};
 
 /// An application message again, with its own number and the moment at which it was first sent.
@@ -23,7 +24,7 @@ fn old_frame(
 {
     let head = Head {
         kind: kept.message.kind,
-        sender: b"PEGV",
+        sender: VENUE,
         target: member,
         number,
         moment,
@@ -46,7 +47,7 @@ fn gap_frame(
     let body = gap_body(alloc, next)?;
     let head = Head {
         kind: SEQUENCE_RESET,
-        sender: b"PEGV",
+        sender: VENUE,
         target: member,
         number: first,
         moment,

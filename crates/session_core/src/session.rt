@@ -12,9 +12,10 @@ use crate::plan::Plan;
 use crate::resent::frames_of_span;
 use crate::state::{EndCause, Phase, State, cause_of, heard, is_over, is_up};
 use crate::turn::{Turn, request_of, sent_now};
-use fix_fields::{Field, FieldFault, LONGEST_FRAME, fields};
+use fix_fields::{Field, FieldFault, fields};
 use std::alloc::Global;
 use std::marker::Model;
+use venue_words::limits::MAX_FRAME_BYTES;
 use venue_words::{Bytes, Items, NoMemory};
 
 /// The session of one member, over one connection after the other: numbers and what was sent outlive a connection.
@@ -75,15 +76,23 @@ impl Session {
         is_up(self.state)
     }
 
-    /// The connection ends for want of memory.
-    fn give_up(&mut self)
+    /// Whether the connection has ended.
+    pub fn is_over(&self) -> bool
+        ensures { IsTrue result ↔ IsOver self.now }
+    {
+        is_over(self.state.phase)
+    }
+
+    /// Ends the connection without a cause, as want of memory does: numbers and what was sent stay. A caller does so who
+    /// can't go on with what the session handed out.
+    pub fn give_up(&mut self)
         ensures { self.new ≡ given_up self.old }
     {
         self.state.phase = Phase::Ended(None);
     }
 
     /// The turn that sends these frames.
-    pub(crate) fn sending(&self, frames: Vec<Bytes>) -> Turn
+    pub fn sending(&self, frames: Vec<Bytes>) -> Turn
         ensures { result ≡ sending self.now frames.items }
     {
         Turn {
@@ -196,7 +205,7 @@ impl Session {
     /// What a frame does. Nothing changes where memory is wanted.
     #[tactic(auto, unfolding(crate::specs::Machine::on_frame))]
     fn work_frame(&mut self, frame: &[u8], moment: i64) -> Result<Turn, NoMemory>
-        requires { length frame.now ≤ LONGEST_FRAME }
+        requires { length frame.now ≤ MAX_FRAME_BYTES }
         ensures machine { OnOk result (self.new ≡ (on_frame self.old frame.now moment).machine) }
         ensures turn { IfOk result (λ turn. turn ≡ (on_frame self.old frame.now moment).turn) }
         ensures up { IfOk result (λ turn. OnSome turn.request (IsUp self.new)) }
@@ -217,7 +226,7 @@ impl Session {
     /// where it hands a message out. Where memory is wanted the connection ends without a cause, and its replies are
     /// lost; the next connection can ask for what was kept before. A session that has ended wants none.
     pub fn take(&mut self, frame: &[u8], moment: i64) -> Result<Turn, NoMemory>
-        requires { length frame.now ≤ LONGEST_FRAME }
+        requires { length frame.now ≤ MAX_FRAME_BYTES }
         ensures machine { OnOk result (self.new ≡ (on_frame self.old frame.now moment).machine) }
         ensures turn { IfOk result (λ turn. turn ≡ (on_frame self.old frame.now moment).turn) }
         ensures up { IfOk result (λ turn. OnSome turn.request (IsUp self.new)) }

@@ -1,11 +1,12 @@
 //! What the contracts of this crate say, on worked examples.
 use crate::message::Entry;
 use crate::{EndCause, Input, Message, Session, Turn};
-use fix_fields::{LONGEST_FRAME, moment};
+use fix_fields::moment;
 use fix_write::wrap;
 use std::alloc::{AllocError, Global};
 use std::mem::size_of;
 use std::test::Fail;
+use venue_words::limits::MAX_FRAME_BYTES;
 use venue_words::{Bytes, Items, NoMemory};
 
 mod received;
@@ -43,7 +44,7 @@ fn start() -> i64 {
 /// What a frame of this content gives, at the moment of the start.
 fn take(alloc: Global, session: &mut Session, text: &[u8]) -> Result<Turn, NoMemory> {
     let frame = frame_of(alloc, text)?;
-    if LONGEST_FRAME < frame.len() {
+    if MAX_FRAME_BYTES < frame.len() {
         return Err(NoMemory);
     }
     session.take(&frame, start())

@@ -6,7 +6,7 @@ use Rattle.venue_words.specs.declared.command.Command.TheVariants.{New}
 use Rattle.venue_words.specs.declared.command.Terms.{Terms}
 use Rattle.std.specs.Prelude.{length, ◌++◌, All}
 use Rattle.std.proofs.lemmas.List.Elements.{All-append}
-use Rattle.venue_words.specs.Conditions.{longest_id}
+use Rattle.venue_words.specs.declared.limits.TheConstants.{MAX_ID_BYTES}
 use Rattle.eager_meaning.specs.declared.known.Known.{Known}
 use Rattle.eager_meaning.specs.declared.order.Order.{Order}
 use Rattle.eager_meaning.specs.Entering.{accepted_order}
@@ -49,13 +49,13 @@ is_fresh member id terms known p = first_holds _ _ _ p
 pub ruleset unbroken = (has_shares, is_fresh)
 
 -- an accepted order is small
-small_order : (tick event member : ℕ) (id : List ℕ) (terms : Terms) → length id ≤ longest_id → IsSmall (accepted_order tick event member id terms)
+small_order : (tick event member : ℕ) (id : List ℕ) (terms : Terms) → length id ≤ MAX_ID_BYTES → IsSmall (accepted_order tick event member id terms)
 unfolding accepted_order
 small_order tick event member id terms short =
     record { short = short; within = omega arith; few = quantity_most terms; worth = omega arith }
 
 -- so all are with it
-pub small_more : (tick event member : ℕ) (id : List ℕ) (terms : Terms) (orders : List Order) → All IsSmall orders → length id ≤ longest_id → All IsSmall (orders ++ accepted_order tick event member id terms ∷ [])
+pub small_more : (tick event member : ℕ) (id : List ℕ) (terms : Terms) (orders : List Order) → All IsSmall orders → length id ≤ MAX_ID_BYTES → All IsSmall (orders ++ accepted_order tick event member id terms ∷ [])
 small_more tick event member id terms orders small short =
     All-append IsSmall orders (accepted_order tick event member id terms ∷ []) small (all_one IsSmall _ (small_order tick event member id terms short))
   where

@@ -9,11 +9,12 @@ use Rattle.venue_words.specs.declared.report.Report.{Report}
 use Rattle.venue_words.specs.declared.row.Row.{Row}
 use Rattle.venue_words.specs.declared.row.Priced.{Priced}
 use Rattle.venue_words.specs.Best.{best_of, either_by}
-use Rattle.venue_words.specs.Conditions.{IsTick, most_events}
+use Rattle.venue_words.specs.Conditions.{IsTick}
+use Rattle.venue_words.specs.declared.limits.TheConstants.{MAX_EVENTS}
 use Rattle.eager_meaning.specs.declared.order.Order.{Order}
 use Rattle.eager_meaning.specs.declared.notice.Notice.{Notice}
 use Rattle.eager_meaning.specs.State.{State}
-use Rattle.eager_meaning.specs.Step.{IsNumbered, runs, step, reports_from}
+use Rattle.eager_meaning.specs.Step.{IsNumbered, runs, step, outcome_of, reports_from}
 use Rattle.market_laws.specs.Reports.{ReportsAreFew}
 use Rattle.market_laws.specs.Sound.{IsSound, BookIsSound}
 use Rattle.market_laws.specs.Standing.{AreStanding, RowsStand, next_entries}
@@ -36,6 +37,15 @@ reported_all : (event : Event) (before : List Report) (notices : List Notice) (a
 unfolding reports_from
 reported_all event before notices after next told =
     sym (append-nil after) ∙ (told.all [] ∙ ap (λ (ns : List Notice). before ++ reports_from 1 event ns) (append-nil notices))
+
+-- the reports of the journal's run are then what was reported
+pub reports_next : (markets tick : ℕ) (journal : List Event) (event : Event) (s : State) (before after : List Report) (place : ℕ)
+    → (runs markets tick journal).state ≡ s → (runs markets tick journal).reports ≡ before
+    → Reports event before 1 (outcome_of tick event.number event.command s).notices after place
+    → (runs markets tick (journal ++ event ∷ [])).reports ≡ after
+unfolding step
+reports_next markets tick journal event s before after place state reports told =
+    rw (runs_next markets tick journal event, state, reports) (sym (reported_all event before _ after place told))
 
 some_event : (x y : Event) → Some x ≡ Some y → x ≡ y
 some_event x y e = cc
@@ -75,7 +85,7 @@ kept_next tick limit markets buys sells best latest orders entered ids log journ
       ticks = kept.ticks;
       limits = kept.limits;
       state = rw (count, runs_next (length markets) tick journal event, kept.state) worked.state;
-      reports = rw (count, runs_next (length markets) tick journal event, kept.state, kept.reports) (sym (reported_all event log.list _ log'.list place worked.reports));
+      reports = rw count (reports_next (length markets) tick journal event s log.list log'.list place kept.state kept.reports worked.reports);
       quote = quote;
       past = omega arith;
       short = omega arith;
@@ -106,7 +116,7 @@ no_prices n = rw (no_bid n, no_offer n) refl
 none_yet : {X : Type 0} (P : X → Type 0) → All P []
 none_yet P = grind arith
 
-pub kept_first : (tick limit markets : ℕ) (best : Best) (latest : ℕ) (ids : IdList) (log : Log) → IsTick tick → limit ≤ most_events
+pub kept_first : (tick limit markets : ℕ) (best : Best) (latest : ℕ) (ids : IdList) (log : Log) → IsTick tick → limit ≤ MAX_EVENTS
     → best ≡ NO_QUOTE → latest ≡ 0 → ids.entries ≡ [] → log.list ≡ []
     → IsKept tick limit (replicate markets NO_QUOTE) [] [] best latest [] [] ids log []
 unfolding runs

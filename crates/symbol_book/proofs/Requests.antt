@@ -6,6 +6,7 @@ use Rattle.venue_words.specs.declared.command.Command.TheVariants.{Cancel, Repla
 use Rattle.venue_words.specs.declared.command.Event.{Event}
 use Rattle.venue_words.specs.declared.command.Rule.{Rule}
 use Rattle.venue_words.specs.declared.command.Terms.{Terms}
+use Rattle.venue_words.specs.declared.report.RefusedRequest.TheVariants.{Cancel as CancelRequest, Replace as ReplaceRequest}
 use Rattle.venue_words.specs.declared.report.Report.{Report}
 use Rattle.venue_words.specs.declared.row.Row.{Row}
 use Rattle.eager_meaning.specs.declared.order.Live.{Live}
@@ -47,13 +48,13 @@ module _ (tick : ℕ) (event : Event) (member : ℕ) (id orig : List ℕ) (room 
 
     module _ (command : event.command ≡ Cancel member id orig) where
       pub cancel_refused : (live : Option Live) (rule : Rule) (after : List Report) (place : ℕ) → live_named room.orig.member room.orig.id.items s.orders (resting s) ≡ live → result ≡ verdict event.command (known_of tick (is_used room.own.member room.own.id.items s.used) live) → result ≡ Some rule
-          → Reports event before 1 (record { member = member; kind = refusal 49 room.shown room.orig.id.items live rule } ∷ []) after place
+          → Reports event before 1 (record { member = member; kind = refusal CancelRequest room.shown room.orig.id.items live rule } ∷ []) after place
           → IsWorked tick event s entered entries before s entered entries after place
       unfolding outcome_of on_cancel ids_after
       cancel_refused live rule after place named e some told =
           let live_e = live_is live named in
           let rule_e : verdict (Cancel member id orig) (known_of tick (is_used member id s.used) live) ≡ Some rule = rule_is (Cancel member id orig) live result command e ∙ some in
-          let outcome_is : outcome_of tick event.number event.command s ≡ with_notice member (refusal 49 id orig live rule) s = rw (command, live_e, rule_e) refl in
+          let outcome_is : outcome_of tick event.number event.command s ≡ with_notice member (refusal CancelRequest id orig live rule) s = rw (command, live_e, rule_e) refl in
           record {
             state = ap (λ (o : Outcome). o.state) outcome_is;
             reports = subst (λ (o : Outcome). Reports event before 1 o.notices after place) (sym outcome_is) (rw (own.shown, names.orig) at told);
@@ -101,13 +102,13 @@ module _ (tick : ℕ) (event : Event) (member : ℕ) (id orig : List ℕ) (room 
 
     module _ (terms : Terms) (command : event.command ≡ Replace member id orig terms) where
       pub replace_refused : (live : Option Live) (rule : Rule) (after : List Report) (place : ℕ) → live_named room.orig.member room.orig.id.items s.orders (resting s) ≡ live → result ≡ verdict event.command (known_of tick (is_used room.own.member room.own.id.items s.used) live) → result ≡ Some rule
-          → Reports event before 1 (record { member = member; kind = refusal 50 room.shown room.orig.id.items live rule } ∷ []) after place
+          → Reports event before 1 (record { member = member; kind = refusal ReplaceRequest room.shown room.orig.id.items live rule } ∷ []) after place
           → IsWorked tick event s entered entries before s entered entries after place
       unfolding outcome_of on_replace ids_after
       replace_refused live rule after place named e some told =
           let live_e = live_is live named in
           let rule_e : verdict (Replace member id orig terms) (known_of tick (is_used member id s.used) live) ≡ Some rule = rule_is (Replace member id orig terms) live result command e ∙ some in
-          let outcome_is : outcome_of tick event.number event.command s ≡ with_notice member (refusal 50 id orig live rule) s = rw (command, live_e, rule_e) refl in
+          let outcome_is : outcome_of tick event.number event.command s ≡ with_notice member (refusal ReplaceRequest id orig live rule) s = rw (command, live_e, rule_e) refl in
           record {
             state = ap (λ (o : Outcome). o.state) outcome_is;
             reports = subst (λ (o : Outcome). Reports event before 1 o.notices after place) (sym outcome_is) (rw (own.shown, names.orig) at told);

@@ -5,7 +5,7 @@ use Rattle.std.specs.Option.{option_map_or}
 use Rattle.std.proofs.lemmas.List.Elements.{All-set}
 use Rattle.std.proofs.Math.Nat.{mul-le-mul_right}
 use Rattle.venue_words.specs.declared.command.Terms.{Terms}
-use Rattle.venue_words.specs.Conditions.{longest_id}
+use Rattle.venue_words.specs.declared.limits.TheConstants.{MAX_ID_BYTES}
 use Rattle.eager_meaning.specs.declared.order.Order.{Order}
 use Rattle.eager_meaning.specs.Changing.{replaced_order}
 use Rattle.eager_meaning.specs.Orders.{changed_at}
@@ -32,11 +32,11 @@ found_place [] k order e = cc
 found_place (o ∷ os) zero order e = (omega arith, sym (ap (λ (x : Option Order). option_map_or (λ (y : Order). y) x order) e))
 found_place (o ∷ os) (suc k) order e = let more = found_place os k order e in (omega (arith, more.0), more.1)
 
-pub replaced_small : (tick : ℕ) (id : List ℕ) (terms : Terms) (order : Order) → IsSmall order → length id ≤ longest_id → order.cum < quantity_of terms → IsSmall (replaced_order tick id terms order)
+pub replaced_small : (tick : ℕ) (id : List ℕ) (terms : Terms) (order : Order) → IsSmall order → length id ≤ MAX_ID_BYTES → order.cum < quantity_of terms → IsSmall (replaced_order tick id terms order)
 replaced_small tick id terms order small short more =
     record { short = short; within = omega arith; few = quantity_most terms; worth = small.worth }
 
-pub all_replaced : (tick number : ℕ) (id : List ℕ) (terms : Terms) (orders : List Order) → All IsSmall orders → length id ≤ longest_id → ((order : Order) → slice_get orders number ≡ Some order → order.cum < quantity_of terms) → All IsSmall (changed_at (replaced_order tick id terms) number orders)
+pub all_replaced : (tick number : ℕ) (id : List ℕ) (terms : Terms) (orders : List Order) → All IsSmall orders → length id ≤ MAX_ID_BYTES → ((order : Order) → slice_get orders number ≡ Some order → order.cum < quantity_of terms) → All IsSmall (changed_at (replaced_order tick id terms) number orders)
 all_replaced tick number id terms orders small short more =
     (elim (slice_get orders number) as (λ found. slice_get orders number ≡ found → All IsSmall (option_map_or (λ (x : Order). slice_set orders number (replaced_order tick id terms x)) found orders)) [
       | None ↦ λ e. small

@@ -7,7 +7,8 @@ use Rattle.venue_words.specs.declared.row.Key.{Key}
 use Rattle.venue_words.specs.declared.row.Row.{Row}
 use Rattle.venue_words.specs.declared.row.Priced.{Priced}
 use Rattle.venue_words.specs.Best.{best_of}
-use Rattle.venue_words.specs.Conditions.{IsTick, most_events}
+use Rattle.venue_words.specs.Conditions.{IsTick}
+use Rattle.venue_words.specs.declared.limits.TheConstants.{MAX_EVENTS}
 use Rattle.eager_meaning.specs.declared.order.Order.{Order}
 use Rattle.eager_meaning.specs.Step.{IsNumbered, runs}
 use Rattle.market_laws.specs.Standing.{entry_rows}
@@ -40,7 +41,7 @@ pub record IsKept (tick limit : ℕ)
     (orders : List Order) (entered : List (Option Row)) (ids : IdList)
     (log : Log) (journal : List Event) : Type 0 where
   pub ticks : IsTick tick
-  pub limits : limit ≤ most_events
+  pub limits : limit ≤ MAX_EVENTS
   pub state : (runs (length markets) tick journal).state ≡ state_of markets buys sells orders (used_of ids.entries)
   pub reports : (runs (length markets) tick journal).reports ≡ log.list
   pub quote : best ≡ best_of markets

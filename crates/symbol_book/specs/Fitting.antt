@@ -6,7 +6,7 @@ use Rattle.venue_words.specs.declared.command.Terms.{Terms}
 use Rattle.venue_words.specs.declared.price.Best.{Best}
 use Rattle.venue_words.specs.declared.row.Priced.{Priced}
 use Rattle.venue_words.specs.Best.{best_of}
-use Rattle.venue_words.specs.Conditions.{longest_id}
+use Rattle.venue_words.specs.declared.limits.TheConstants.{MAX_ID_BYTES}
 use Rattle.eager_meaning.specs.declared.order.Order.{Order}
 use Rattle.eager_meaning.specs.declared.order.Live.{Live}
 use Rattle.eager_meaning.specs.Changing.{replaced_order, without}
@@ -40,12 +40,12 @@ CanWork tick event (Quote market bid offer) s =
     (requoted_rows event (best_of (slice_set s.markets market (record { bid = bid; offer = offer }))) s.buys s.sells).fills
     s.orders
 CanWork tick event (New member id terms) s =
-    (length id ≤ longest_id)
+    (length id ≤ MAX_ID_BYTES)
     × (broken_by tick member id (New member id terms) s None ≡ None
     → NewFits tick event member id terms (best_of s.markets) s.buys s.sells s.orders)
 CanWork tick event (Cancel member id orig) s = Unit {0}
 CanWork tick event (Replace member id orig terms) s =
-    (length id ≤ longest_id)
+    (length id ≤ MAX_ID_BYTES)
     × ((live : Live) → live_named member orig s.orders (resting s) ≡ Some live
     → broken_by tick member id (Replace member id orig terms) s (Some live) ≡ None
     → (live.order.cum < quantity_of terms)

@@ -12,5 +12,6 @@ pub mod Orders
 pub mod Room
 pub mod Rows
 pub mod Setting
+pub mod SettingLaws
 pub mod State
 pub mod Worked

@@ -1,6 +1,6 @@
 -- What a book needs of its orders, so that sums fit and ids have room.
 use Rattle.std.specs.Prelude.{ℕ, ◌+◌, ◌*◌, ◌^◌, ◌<◌, ◌≤◌, List, [], ◌∷◌, length, slice_index_or}
-use Rattle.venue_words.specs.Conditions.{longest_id}
+use Rattle.venue_words.specs.declared.limits.TheConstants.{MAX_ID_BYTES}
 use Rattle.eager_meaning.specs.declared.order.Order.{Order}
 use Rattle.eager_meaning.specs.declared.trade.Fill.{Fill}
 use Rattle.eager_meaning.specs.Orders.{changed_at}
@@ -12,7 +12,7 @@ most_shares = 999999999
 
 -- an order with a short id and no more traded than its quantity, at prices of 32 bits
 pub record IsSmall (order : Order) : Type 0 where
-  pub short : length order.id ≤ longest_id
+  pub short : length order.id ≤ MAX_ID_BYTES
   pub within : order.cum ≤ order.quantity
   pub few : order.quantity ≤ most_shares
   pub worth : order.notional ≤ 2 ^ 32 * order.cum

@@ -3,7 +3,8 @@ ghost use Rattle.std.specs.Prelude.{◌≡◌, ℕ, ◌+◌, ◌*◌, ◌^◌, �
 ghost use Rattle.std.specs.Prelude.{length, vec_len};
 ghost use Rattle.std.specs.Vec.{vec_capacity};
 ghost use Rattle.venue_words.specs.Best.{best_of};
-ghost use Rattle.venue_words.specs.Conditions.{IsTick, longest_id};
+ghost use Rattle.venue_words.specs.Conditions.{IsTick};
+ghost use Rattle.venue_words.specs.declared.limits.TheConstants.{MAX_ID_BYTES};
 ghost use Rattle.venue_words.specs.declared.command.Command.TheVariants.{New};
 ghost use Rattle.venue_words.specs.declared.price.Best.{Best};
 ghost use Rattle.venue_words.specs.declared.report.Kind.TheVariants.{Rejected};
@@ -27,13 +28,13 @@ use crate::entering::{enter, entering_row, price_now};
 use crate::ids::{ClOrdId, UsedIds};
 use crate::log::ReportLog;
 use crate::room::Room;
-use crate::showing::view_with_row;
+use crate::showing::view_at;
 use eager_meaning::{
     Known, Order, is_immediate, is_pegged, limit_of, quantity_of, side_of, verdict,
 };
 use match_core::Engine;
 use std::sync::ledger::Ledger;
-use venue_words::{Bytes, Event, Kind, Row, Rule, Side, Steps, Terms};
+use venue_words::{Bytes, Event, Execution, Kind, Row, Rule, Side, Steps, Terms};
 
 /// An accepted order, before it trades.
 #[tactic(auto, unfolding(eager_meaning::specs::Entering::accepted_order))]
@@ -86,7 +87,7 @@ fn accept<E: Engine, L: Ledger>(
     requires fits { NewFits tick event.now.number member id.now terms.now (E.best engine.old) (E.buys engine.old)
         (E.sells engine.old) orders.old.items }
     requires small { All IsSmall orders.old.items }
-    requires short { length id.now ≤ longest_id }
+    requires short { length id.now ≤ MAX_ID_BYTES }
     requires fresh { is_used member id.now (used_of ids.old.entries) ≡ false }
     requires order_room { vec_len orders.old < vec_capacity orders.old }
     requires row_room { vec_len entered.old < vec_capacity entered.old }
@@ -124,7 +125,7 @@ fn accept<E: Engine, L: Ledger>(
     let row = entering_row(tick, event.number, number, member, 0, terms);
     let order = accepted_order(tick, event.number, member, copy, terms);
     let price = price_now(engine, &row);
-    let view = view_with_row(&order, shown, price, row.entry);
+    let view = view_at(&order, shown, price, row.entry);
     ids.push(own, number);
     orders.push_reserved(order);
     entered.push_reserved(kept_row(is_immediate(terms), row));
@@ -136,7 +137,10 @@ fn accept<E: Engine, L: Ledger>(
         row,
         is_immediate(terms),
         member,
-        Kind::Accepted(view),
+        Kind::Order {
+            view,
+            execution: Execution::Accepted,
+        },
         steps,
     )
 }
@@ -220,7 +224,7 @@ pub fn on_new<E: Engine, L: Ledger>(
         → NewFits tick event.now.number member id.now terms.now (E.best engine.old) (E.buys engine.old)
         (E.sells engine.old) orders.old.items }
     requires small { All IsSmall orders.old.items }
-    requires short { length id.now ≤ longest_id }
+    requires short { length id.now ≤ MAX_ID_BYTES }
     requires order_room { vec_len orders.old < vec_capacity orders.old }
     requires row_room { vec_len entered.old < vec_capacity entered.old }
     requires id_room { 0 < ids.old.room }

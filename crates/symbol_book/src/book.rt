@@ -65,10 +65,12 @@ impl<E: Engine + Drop> Model for BookOver<E> {
 impl<E: Engine + Drop> BookOver<E> {
     ghost use Rattle.std.specs.Prelude.{◌≡◌, ℕ, ◌+◌, ◌<◌, ◌≤◌, ◌++◌, ◌∷◌, [], Some, None, true, length, slice_get};
     ghost use Rattle.std.specs.Prelude.{OnOk, IfOk, IfErr};
-    ghost use Rattle.venue_words.specs.Conditions.{IsTick, most_events};
+    ghost use Rattle.venue_words.specs.Conditions.{IsTick};
+    ghost use Rattle.venue_words.specs.declared.limits.TheConstants.{MAX_EVENTS};
     ghost use Rattle.venue_words.specs.Journals.{IfFull};
     ghost use Rattle.venue_words.specs.declared.price.Side.TheVariants.{Buy, Sell};
-    ghost use Rattle.eager_meaning.specs.Step.{runs};
+    ghost use Rattle.eager_meaning.specs.State.{resting};
+    ghost use Rattle.eager_meaning.specs.Step.{IsNumbered, runs};
     ghost use Rattle.eager_meaning.specs.Work.{bound, groups};
     ghost use Rattle.eager_meaning.specs.declared.order.Order.{Order};
     ghost use Rattle.market_laws.specs.Orders.{shares_told_of};
@@ -77,7 +79,7 @@ impl<E: Engine + Drop> BookOver<E> {
     ghost use Rattle.symbol_book.specs.Commands.{takes_command, key_for};
     ghost use Rattle.symbol_book.specs.Market.{TradesWithinQuote, EachNewAnswered};
     ghost use Rattle.symbol_book.specs.Room.{IsRoomFor};
-    ghost use Rattle.symbol_book.specs.Setting.{setting_of, markets_in, tick_in};
+    ghost use Rattle.symbol_book.specs.Setting.{setting_of, book_setting, markets_in, tick_in, run_at, reports_at};
 
     /// A book without events, over an engine without rows: so many markets, a limit of events, and a tick of 2 or 10 units of
     /// 0.005.
@@ -89,7 +91,7 @@ impl<E: Engine + Drop> BookOver<E> {
         limit: u32,
         tick: u32,
     ) -> Result<BookOver<E>, NoMemory>
-        requires limit { limit ≤ most_events }
+        requires limit { limit ≤ MAX_EVENTS }
         requires tick { IsTick tick }
         requires buys { E.buys engine ≡ [] }
         requires sells { E.sells engine ≡ [] }
@@ -120,6 +122,7 @@ impl<E: Engine + Drop> BookOver<E> {
     pub fn reports(&self) -> &[Report]
         ensures list { result.now ≡ self.now.reports }
         ensures runs { result.now ≡ (runs self.now.markets self.now.tick self.now.journal).reports }
+        ensures by_setting { result.now ≡ reports_at (book_setting self.now) self.now.journal }
 
         // Shares are neither made nor lost, each order's CumQty is the sum of its trades, and its quantity is CumQty plus
         // leaves while it is live.
@@ -133,6 +136,7 @@ impl<E: Engine + Drop> BookOver<E> {
         ensures within { TradesWithinQuote self.now.markets self.now.tick self.now.journal }
         ensures answered { EachNewAnswered self.now.markets self.now.tick self.now.journal }
     {
+        self.parts_of_setting();
         bought_shares_are_sold();
         cum_is_sum_of_trades();
         book_is_sound();
@@ -143,24 +147,29 @@ impl<E: Engine + Drop> BookOver<E> {
 
     /// The events, in their order.
     pub fn journal(&self) -> &[Event]
-        ensures { result.now ≡ self.now.journal }
+        ensures list { result.now ≡ self.now.journal }
+        ensures numbered { IsNumbered result.now }
     {
         self.journal.as_slice()
     }
 
     /// How many orders rest.
     pub fn resting(&self) -> u32
-        ensures { result ≡ length (runs self.now.markets self.now.tick self.now.journal).state.buys
+        ensures runs { result ≡ length (runs self.now.markets self.now.tick self.now.journal).state.buys
             + length (runs self.now.markets self.now.tick self.now.journal).state.sells }
+        ensures by_setting { result ≡ length (resting (run_at (book_setting self.now) self.now.journal).state) }
     {
+        self.parts_of_setting();
         book_is_sound();
         self.parts.engine.len() as u32
     }
 
     /// How many peg groups rest: the different keys of the resting orders.
     pub fn groups(&self) -> u32
-        ensures { result ≡ groups (runs self.now.markets self.now.tick self.now.journal).state }
+        ensures runs { result ≡ groups (runs self.now.markets self.now.tick self.now.journal).state }
+        ensures by_setting { result ≡ groups (run_at (book_setting self.now) self.now.journal).state }
     {
+        self.parts_of_setting();
         book_is_sound();
         self.parts.engine.groups() as u32
     }
@@ -169,7 +178,7 @@ impl<E: Engine + Drop> BookOver<E> {
     /// market that is there.
     pub fn takes(&self, command: &Command) -> bool
         ensures markets { result ≡ takes_command self.now.markets command.now }
-        ensures setting { result ≡ takes_command (markets_in (setting_of self.now.markets self.now.tick)) command.now }
+        ensures setting { result ≡ takes_command (markets_in (book_setting self.now)) command.now }
     {
         self.parts_of_setting();
         takes_command(self.parts.markets.len(), command)
@@ -179,7 +188,9 @@ impl<E: Engine + Drop> BookOver<E> {
     pub fn front(&self) -> u32
         ensures list { result ≡ length self.now.reports }
         ensures runs { result ≡ length (runs self.now.markets self.now.tick self.now.journal).reports }
+        ensures by_setting { result ≡ length (reports_at (book_setting self.now) self.now.journal) }
     {
+        self.parts_of_setting();
         reports_are_few();
         self.parts.log.as_slice().len() as u32
     }
@@ -197,9 +208,9 @@ impl<E: Engine + Drop> BookOver<E> {
     }
 
     /// That the markets and the tick can be read from the setting. This does nothing when it runs.
-    pub fn parts_of_setting(&self)
-        ensures markets { markets_in (setting_of self.now.markets self.now.tick) ≡ self.now.markets }
-        ensures tick { tick_in (setting_of self.now.markets self.now.tick) ≡ self.now.tick }
+    pub(crate) fn parts_of_setting(&self)
+        ensures markets { markets_in (book_setting self.now) ≡ self.now.markets }
+        ensures tick { tick_in (book_setting self.now) ≡ self.now.tick }
     {
         let _tick = self.tick;
     }
@@ -245,6 +256,7 @@ impl<E: Engine + Drop> BookOver<E> {
         ensures same { (self.new.markets ≡ self.old.markets) × (self.new.tick ≡ self.old.tick) × (self.new.limit
             ≡ self.old.limit) }
         ensures journal { self.new.journal ≡ self.old.journal ++ event ∷ [] }
+        ensures reports { self.new.reports ≡ (runs self.old.markets self.old.tick (self.old.journal ++ event ∷ [])).reports }
         ensures most { steps.new ≤ steps.old + bound self.old.tick
             (runs self.old.markets self.old.tick self.old.journal).state event.number event.command }
     {

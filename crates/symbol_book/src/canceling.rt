@@ -24,7 +24,7 @@ use crate::showing::view_closed;
 use eager_meaning::Order;
 use match_core::Engine;
 use std::sync::ledger::Ledger;
-use venue_words::{Bytes, Event, Kind, Row, Steps};
+use venue_words::{Bytes, Event, Execution, Kind, RefusedRequest, Row, Steps};
 
 /// A live order leaves. Its report has the id of the cancel.
 #[tactic(auto, unfolding(eager_meaning::specs::Changing::cancel))]
@@ -78,9 +78,11 @@ fn cancel<E: Engine, L: Ledger>(
         event,
         1,
         member,
-        Kind::Canceled {
+        Kind::Order {
             view,
-            orig: Some(Bytes(orig.id)),
+            execution: Execution::Canceled {
+                orig: Some(Bytes(orig.id)),
+            },
         },
     )
 }
@@ -128,7 +130,7 @@ pub fn on_cancel<E: Engine, L: Ledger>(
                 log,
                 event,
                 member,
-                b'1',
+                RefusedRequest::Cancel,
                 shown,
                 Bytes(orig.id),
                 live,

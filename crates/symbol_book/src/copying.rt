@@ -1,10 +1,9 @@
 //! Copies of reports.
 ghost use Rattle.std.specs.Prelude.{◌≡◌, ◌==◌, IfOk, filter};
 ghost use Rattle.venue_words.specs.Journals.{reports_of};
-ghost use Rattle.venue_words.specs.declared.report.Kind.TheVariants.{Refused};
 
 use std::alloc::{AllocError, Global};
-use venue_words::{Bytes, Kind, Report, Rule, View};
+use venue_words::{Bytes, Execution, Kind, Report, View};
 
 fn copy_of_bytes(alloc: Global, bytes: &Bytes) -> Result<Bytes, AllocError>
     ensures { IfOk result (λ copy. copy ≡ bytes.now) }
@@ -24,10 +23,7 @@ fn copy_of_view(alloc: Global, view: &View) -> Result<View, AllocError>
         limit: view.limit,
         cum: view.cum,
         notional: view.notional,
-        leaves: view.leaves,
-        state: view.state,
-        price: view.price,
-        time: view.time,
+        live: view.live,
     })
 }
 
@@ -43,55 +39,35 @@ fn copy_of_orig(alloc: Global, orig: &Option<Bytes>) -> Result<Option<Bytes>, Al
     }
 }
 
-fn copy_of_refusal(
-    alloc: Global,
-    id: &Bytes,
-    orig: &Bytes,
-    first: u32,
-    state: u8,
-    answer: u8,
-    rule: Rule,
-) -> Result<Kind, AllocError>
-    ensures { IfOk result (λ copy. copy ≡ Refused id.now orig.now first state answer rule) }
+fn copy_of_execution(alloc: Global, execution: &Execution) -> Result<Execution, AllocError>
+    ensures { IfOk result (λ copy. copy ≡ execution.now) }
 {
-    let id = copy_of_bytes(alloc, id)?;
-    let orig = copy_of_bytes(alloc, orig)?;
-    Ok(Kind::Refused {
-        id,
-        orig,
-        first,
-        state,
-        answer,
-        rule,
-    })
+    match execution {
+        Execution::Accepted => Ok(Execution::Accepted),
+        Execution::Traded { quantity, price } => Ok(Execution::Traded {
+            quantity: *quantity,
+            price: *price,
+        }),
+        Execution::Canceled { orig } => {
+            let orig = copy_of_orig(alloc, orig)?;
+            Ok(Execution::Canceled { orig })
+        }
+        Execution::Replaced { orig } => {
+            let orig = copy_of_bytes(alloc, orig)?;
+            Ok(Execution::Replaced { orig })
+        }
+        Execution::Status => Ok(Execution::Status),
+    }
 }
 
 fn copy_of_kind(alloc: Global, kind: &Kind) -> Result<Kind, AllocError>
     ensures { IfOk result (λ copy. copy ≡ kind.now) }
 {
     match kind {
-        Kind::Accepted(view) => Ok(Kind::Accepted(copy_of_view(alloc, view)?)),
-        Kind::Traded {
-            view,
-            quantity,
-            price,
-        } => {
+        Kind::Order { view, execution } => {
             let view = copy_of_view(alloc, view)?;
-            Ok(Kind::Traded {
-                view,
-                quantity: *quantity,
-                price: *price,
-            })
-        }
-        Kind::Canceled { view, orig } => {
-            let view = copy_of_view(alloc, view)?;
-            let orig = copy_of_orig(alloc, orig)?;
-            Ok(Kind::Canceled { view, orig })
-        }
-        Kind::Replaced { view, orig } => {
-            let view = copy_of_view(alloc, view)?;
-            let orig = copy_of_bytes(alloc, orig)?;
-            Ok(Kind::Replaced { view, orig })
+            let execution = copy_of_execution(alloc, execution)?;
+            Ok(Kind::Order { view, execution })
         }
         Kind::Rejected {
             id,
@@ -107,7 +83,6 @@ fn copy_of_kind(alloc: Global, kind: &Kind) -> Result<Kind, AllocError>
                 rule: *rule,
             })
         }
-        Kind::Status(view) => Ok(Kind::Status(copy_of_view(alloc, view)?)),
         Kind::Unknown { id, side } => {
             let id = copy_of_bytes(alloc, id)?;
             Ok(Kind::Unknown { id, side: *side })
@@ -115,11 +90,20 @@ fn copy_of_kind(alloc: Global, kind: &Kind) -> Result<Kind, AllocError>
         Kind::Refused {
             id,
             orig,
-            first,
-            state,
-            answer,
+            order,
+            request,
             rule,
-        } => copy_of_refusal(alloc, id, orig, *first, *state, *answer, *rule),
+        } => {
+            let id = copy_of_bytes(alloc, id)?;
+            let orig = copy_of_bytes(alloc, orig)?;
+            Ok(Kind::Refused {
+                id,
+                orig,
+                order: *order,
+                request: *request,
+                rule: *rule,
+            })
+        }
     }
 }
 

@@ -18,7 +18,7 @@ use crate::trading::report_trades;
 use eager_meaning::{Order, row_of, value_under};
 use match_core::Engine;
 use std::sync::ledger::Ledger;
-use venue_words::{Event, Kind, Priced, Row, Steps, Terms};
+use venue_words::{Event, Execution, Kind, Priced, Row, Steps, Terms};
 
 /// The row with which an order of these terms enters.
 #[tactic(auto, unfolding(eager_meaning::specs::Terms::row_of))]
@@ -67,7 +67,10 @@ fn report_leftover(
         event,
         place,
         order.member,
-        Kind::Canceled { view, orig: None },
+        Kind::Order {
+            view,
+            execution: Execution::Canceled { orig: None },
+        },
     )
 }
 

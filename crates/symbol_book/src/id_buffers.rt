@@ -2,9 +2,7 @@
 use std::alloc::{AllocError, Global};
 use std::marker::Model;
 use venue_words::Bytes;
-
-/// The greatest length of an id.
-const LONGEST_ID: usize = 64;
+use venue_words::limits::MAX_ID_BYTES;
 
 /// Buffers for ids, made ahead. Contracts see how many there are.
 #[derive(Drop)]
@@ -26,7 +24,7 @@ impl Model for IdBuffers {
 
 impl IdBuffers {
     ghost use Rattle.std.specs.Prelude.{◌≡◌, ◌+◌, ◌<◌, ◌≤◌, OnOk, length};
-    ghost use Rattle.venue_words.specs.Conditions.{longest_id};
+    ghost use Rattle.venue_words.specs.declared.limits.TheConstants.{MAX_ID_BYTES};
 
     /// No buffers.
     pub fn new(alloc: Global) -> IdBuffers
@@ -43,7 +41,7 @@ impl IdBuffers {
         ensures kept { self.old ≤ self.new }
     {
         while self.buffers.len() < count {
-            let buffer = Vec::with_capacity(alloc, LONGEST_ID)?;
+            let buffer = Vec::with_capacity(alloc, MAX_ID_BYTES)?;
             self.buffers.push(buffer)?;
         }
         Ok(())
@@ -52,7 +50,7 @@ impl IdBuffers {
     /// A copy of an id, in one of the buffers.
     pub fn copy(&mut self, id: &[u8]) -> Bytes
         requires some { 0 < self.old }
-        requires short { length id.now ≤ longest_id }
+        requires short { length id.now ≤ MAX_ID_BYTES }
         ensures copy { result ≡ id.now }
         ensures one { self.new + 1 ≡ self.old }
     {

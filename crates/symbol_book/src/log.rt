@@ -24,7 +24,7 @@ impl Model for ReportLog {
 
 impl ReportLog {
     ghost use Rattle.std.specs.Prelude.{◌≡◌, ◌+◌, ◌^◌, ◌<◌, ◌≤◌, [], ◌∷◌, OnOk, length};
-    ghost use Rattle.venue_words.specs.Conditions.{longest_id};
+    ghost use Rattle.venue_words.specs.declared.limits.TheConstants.{MAX_ID_BYTES};
     ghost use Rattle.symbol_book.specs.Log.{Reports};
 
     /// No reports.
@@ -62,7 +62,7 @@ impl ReportLog {
     /// A copy of an id in one of the buffers.
     pub fn copy(&mut self, id: &Bytes) -> Bytes
         requires some { 0 < self.old.buffers }
-        requires short { length id.now ≤ longest_id }
+        requires short { length id.now ≤ MAX_ID_BYTES }
         ensures copy { result ≡ id.now }
         ensures list { self.new.list ≡ self.old.list }
         ensures places { self.new.places ≡ self.old.places }

@@ -1,12 +1,10 @@
 //! Requests that break a rule.
-ghost use Rattle.std.specs.Prelude.{◌≡◌, ◌<◌, ◌∷◌, [], List, Option, IfSome, length};
-ghost use Rattle.std.specs.Option.{option_map_or};
+ghost use Rattle.std.specs.Prelude.{◌≡◌, ◌<◌, ◌∷◌, [], List, Option, IfSome, length, option_map};
 ghost use Rattle.venue_words.specs.Conditions.{IsTick};
 ghost use Rattle.venue_words.specs.declared.row.Priced.{Priced};
 ghost use Rattle.eager_meaning.specs.declared.order.Live.{Live};
-ghost use Rattle.eager_meaning.specs.Changing.{refusal};
+ghost use Rattle.eager_meaning.specs.Changing.{named_order, refusal};
 ghost use Rattle.eager_meaning.specs.Orders.{is_used, known_of};
-ghost use Rattle.eager_meaning.specs.Showing.{live_state};
 ghost use Rattle.eager_meaning.specs.Verdict.{verdict};
 ghost use Rattle.symbol_book.specs.Finding.{IsFound};
 ghost use Rattle.symbol_book.specs.Ids.{used_of};
@@ -15,9 +13,8 @@ ghost use Rattle.symbol_book.specs.Log.{Reports};
 use crate::finding::Found;
 use crate::ids::{ClOrdId, UsedIds};
 use crate::log::ReportLog;
-use crate::showing::live_state;
 use eager_meaning::{Known, Order, verdict};
-use venue_words::{Bytes, Event, Kind, Rule, Side};
+use venue_words::{Bytes, Event, Kind, NamedOrder, OrderStatus, RefusedRequest, Rule, Side};
 
 /// What the rules ask of the book, for a request that names this live order, or none.
 #[tactic(auto, unfolding(eager_meaning::specs::Orders::known_of))]
@@ -67,12 +64,12 @@ pub fn rule_of_request(
     verdict(&event.command, &known)
 }
 
-/// A Cancel (answer `1`) or a Replace (answer `2`) is refused.
+/// A Cancel or a Replace is refused.
 pub fn refuse(
     log: &mut ReportLog,
     event: &Event,
     member: u32,
-    answer: u8,
+    request: RefusedRequest,
     id: Bytes,
     orig: Bytes,
     live: Option<Found>,
@@ -82,10 +79,10 @@ pub fn refuse(
     requires here { IfSome live (λ found. found.number < length orders.now) }
     requires places { 0 < log.old.places }
     ensures reports { (rows : List Priced) (is : Option Live) → IsFound orders.now rows is live
-        → Reports event.now log.old.list 1 (record { member = member; kind = refusal answer id orig is rule } ∷ [])
+        → Reports event.now log.old.list 1 (record { member = member; kind = refusal request id orig is rule } ∷ [])
         log.new.list result }
 {
-    let (first, state) = first_and_state(live, orders);
+    let order = named_order(live, orders);
     log.push(
         event,
         1,
@@ -93,29 +90,27 @@ pub fn refuse(
         Kind::Refused {
             id,
             orig,
-            first,
-            state,
-            answer,
+            order,
+            request,
             rule,
         },
     )
 }
 
-/// The event of the New of a live order and the code of its state; 0 and `8` where there is none.
-fn first_and_state(live: Option<Found>, orders: &[Order]) -> (u32, u8)
+/// How a refusal names a live order, where there is one.
+fn named_order(live: Option<Found>, orders: &[Order]) -> Option<NamedOrder>
     requires here { IfSome live (λ found. found.number < length orders.now) }
     ensures { (rows : List Priced) (is : Option Live) → IsFound orders.now rows is live
-        → result ≡ (
-          option_map_or (λ found. found.order.first) is 0,
-          option_map_or
-              (λ found. live_state found.order) is 56,
-        ) }
+        → result ≡ option_map named_order is }
 {
     match live {
         Some(found) => {
             let order = &orders[found.number as usize];
-            (order.first, live_state(order))
+            Some(NamedOrder {
+                first: order.first,
+                status: OrderStatus::of_live(order.cum),
+            })
         }
-        None => (0, b'8'),
+        None => None,
     }
 }

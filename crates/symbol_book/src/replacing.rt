@@ -3,7 +3,8 @@ ghost use Rattle.std.specs.Prelude.{◌≡◌, ◌⊎◌, ℕ, ◌+◌, ◌-◌,
 ghost use Rattle.std.specs.Prelude.{length, slice_get, slice_set, vec_len};
 ghost use Rattle.std.specs.Vec.{vec_capacity};
 ghost use Rattle.venue_words.specs.Best.{best_of};
-ghost use Rattle.venue_words.specs.Conditions.{IsTick, longest_id};
+ghost use Rattle.venue_words.specs.Conditions.{IsTick};
+ghost use Rattle.venue_words.specs.declared.limits.TheConstants.{MAX_ID_BYTES};
 ghost use Rattle.venue_words.specs.declared.command.Command.TheVariants.{Replace};
 ghost use Rattle.venue_words.specs.declared.price.Best.{Best};
 ghost use Rattle.venue_words.specs.declared.row.Priced.{Priced};
@@ -35,11 +36,13 @@ use crate::ids::UsedIds;
 use crate::log::ReportLog;
 use crate::refusing::{refuse, rule_of_request};
 use crate::room::Room;
-use crate::showing::view_with_row;
+use crate::showing::view_at;
 use eager_meaning::{Order, is_immediate, is_pegged, limit_of, quantity_of, row_of};
 use match_core::Engine;
 use std::sync::ledger::Ledger;
-use venue_words::{Bytes, Event, Kind, Method, Row, Steps, Terms, same_key};
+use venue_words::{
+    Bytes, Event, Execution, Kind, Method, RefusedRequest, Row, Steps, Terms, same_key,
+};
 
 /// Whether two orders meet their minimums in the same way.
 fn same_method(x: Method, y: Method) -> bool
@@ -86,7 +89,7 @@ fn set_terms(tick: u32, orders: &mut Vec<Order>, number: u32, id: Bytes, terms: 
     requires tick { IsTick tick }
     requires here { number < length orders.old.items }
     requires small { All IsSmall orders.old.items }
-    requires short { length id ≤ longest_id }
+    requires short { length id ≤ MAX_ID_BYTES }
     requires more { (order : Order) → slice_get orders.old.items number ≡ Some order
         → order.cum < quantity_of terms.now }
     ensures items { orders.new.items ≡ changed_at (replaced_order tick id terms.now) number orders.old.items }
@@ -123,7 +126,7 @@ fn resize<E: Engine, L: Ledger>(
     requires fresh { is_used member room.own.id.items (used_of ids.old.entries) ≡ false }
     requires order { room.order ≡ room.own.id.items }
     requires shown { room.shown ≡ room.own.id.items }
-    requires short { length room.own.id.items ≤ longest_id }
+    requires short { length room.own.id.items ≤ MAX_ID_BYTES }
     requires small { All IsSmall orders.old.items }
     requires id_room { 0 < ids.old.room }
     requires places { 0 < log.old.places }
@@ -153,16 +156,18 @@ fn resize<E: Engine, L: Ledger>(
     set_terms(tick, orders, found.number, copy, terms);
     let order = &orders[found.number as usize];
     let leaves = order.quantity - order.cum;
-    let view = view_with_row(order, shown, price, time);
+    let view = view_at(order, shown, price, time);
     engine.lower(&found.row, leaves, steps);
     ids.push(own, found.number);
     log.push(
         event,
         1,
         member,
-        Kind::Replaced {
+        Kind::Order {
             view,
-            orig: Bytes(orig.id),
+            execution: Execution::Replaced {
+                orig: Bytes(orig.id),
+            },
         },
     )
 }
@@ -194,7 +199,7 @@ fn reenter<E: Engine, L: Ledger>(
     requires fresh { is_used member room.own.id.items (used_of ids.old.entries) ≡ false }
     requires order { room.order ≡ room.own.id.items }
     requires shown { room.shown ≡ room.own.id.items }
-    requires short { length room.own.id.items ≤ longest_id }
+    requires short { length room.own.id.items ≤ MAX_ID_BYTES }
     requires ready { E.ready engine.old (Some (key_of tick terms.now)) }
     requires later { E.latest engine.old < event.now.number }
     requires small { All IsSmall orders.old.items }
@@ -235,7 +240,7 @@ fn reenter<E: Engine, L: Ledger>(
     let order = &orders[found.number as usize];
     let row = entering_row(tick, event.number, found.number, member, order.cum, terms);
     let price = price_now(engine, &row);
-    let view = view_with_row(order, shown, price, row.entry);
+    let view = view_at(order, shown, price, row.entry);
     engine.cut(&found.row, steps);
     entered[found.number as usize] = kept_row(is_immediate(terms), row);
     ids.push(own, found.number);
@@ -247,9 +252,11 @@ fn reenter<E: Engine, L: Ledger>(
         row,
         is_immediate(terms),
         member,
-        Kind::Replaced {
+        Kind::Order {
             view,
-            orig: Bytes(orig.id),
+            execution: Execution::Replaced {
+                orig: Bytes(orig.id),
+            },
         },
         steps,
     )
@@ -281,7 +288,7 @@ fn replace<E: Engine, L: Ledger>(
     requires fresh { is_used member room.own.id.items (used_of ids.old.entries) ≡ false }
     requires order { room.order ≡ room.own.id.items }
     requires shown { room.shown ≡ room.own.id.items }
-    requires short { length room.own.id.items ≤ longest_id }
+    requires short { length room.own.id.items ≤ MAX_ID_BYTES }
     requires ready { E.ready engine.old (Some (key_of tick terms.now)) }
     requires later { E.latest engine.old < event.now.number }
     requires small { All IsSmall orders.old.items }
@@ -344,7 +351,7 @@ pub fn on_replace<E: Engine, L: Ledger>(
     requires orig { CopiesOrig member orig.now room }
     requires kept { KeepsOrders entered.old.items orders.old.items
         (E.buys engine.old ++ E.sells engine.old) ids.old.entries }
-    requires short { length id.now ≤ longest_id }
+    requires short { length id.now ≤ MAX_ID_BYTES }
     requires fits { (live : Live) → live_named member orig.now orders.old.items
         (E.buys engine.old ++ E.sells engine.old) ≡ Some live
         → verdict (Replace member id.now orig.now terms.now) (known_of tick
@@ -384,7 +391,7 @@ pub fn on_replace<E: Engine, L: Ledger>(
                 log,
                 event,
                 member,
-                b'2',
+                RefusedRequest::Replace,
                 shown,
                 Bytes(orig.id),
                 live,

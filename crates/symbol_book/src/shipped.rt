@@ -1,6 +1,7 @@
 //! The book as it ships, over peg groups.
 ghost use Rattle.std.specs.Prelude.{◌≡◌, ◌≤◌, [], IfOk};
-ghost use Rattle.venue_words.specs.Conditions.{IsTick, most_events};
+ghost use Rattle.venue_words.specs.Conditions.{IsTick};
+ghost use Rattle.venue_words.specs.declared.limits.TheConstants.{MAX_EVENTS};
 
 use crate::book::BookOver;
 use crate::hashing::HashSeed;
@@ -16,7 +17,7 @@ impl BookOver<Sides<GroupSide>> {
     /// A book without events: so many markets, a limit of events, and a tick of 2 or 10 units of 0.005. Ids are hashed with the
     /// fixed seed. Once `prepare` has answered Ok, an event is worked without memory.
     pub fn new(alloc: Global, markets: u32, limit: u32, tick: u32) -> Result<Book, NoMemory>
-        requires limit { limit ≤ most_events }
+        requires limit { limit ≤ MAX_EVENTS }
         requires tick { IsTick tick }
         ensures same { IfOk result (λ book. (book.markets ≡ markets) × (book.tick ≡ tick) × (book.limit ≡ limit)) }
         ensures empty { IfOk result (λ book. (book.journal ≡ []) × (book.reports ≡ [])) }
@@ -32,7 +33,7 @@ impl BookOver<Sides<GroupSide>> {
         limit: u32,
         tick: u32,
     ) -> Result<Book, NoMemory>
-        requires limit { limit ≤ most_events }
+        requires limit { limit ≤ MAX_EVENTS }
         requires tick { IsTick tick }
         ensures same { IfOk result (λ book. (book.markets ≡ markets) × (book.tick ≡ tick) × (book.limit ≡ limit)) }
         ensures empty { IfOk result (λ book. (book.journal ≡ []) × (book.reports ≡ [])) }

@@ -15,11 +15,11 @@ use crate::finding::{live_row, number_of};
 use crate::ids::UsedIds;
 use crate::log::ReportLog;
 use crate::room::Room;
-use crate::showing::{view_closed, view_with_row};
+use crate::showing::{view_at, view_closed};
 use eager_meaning::Order;
 use match_core::Engine;
 use std::sync::ledger::Ledger;
-use venue_words::{Bytes, Event, Kind, Row, Steps, View};
+use venue_words::{Bytes, Event, Execution, Kind, Row, Steps, View};
 
 /// An order as it is now, live or not.
 fn view_now<E: Engine, L: Ledger>(
@@ -41,7 +41,7 @@ fn view_now<E: Engine, L: Ledger>(
     match live_row(orders, entered, number) {
         Some(row) => {
             let (price, time) = engine.priced(&row, steps);
-            view_with_row(order, id, price, time)
+            view_at(order, id, price, time)
         }
         None => view_closed(order, id),
     }
@@ -70,14 +70,10 @@ pub fn on_status<E: Engine, L: Ledger>(
     ensures most { steps.new ≤ steps.old + 512 }
 {
     let kind = match number_of(ids, orders, &room.orig) {
-        Some(number) => Kind::Status(view_now(
-            engine,
-            orders,
-            entered,
-            number,
-            Bytes(room.orig.id),
-            steps,
-        )),
+        Some(number) => Kind::Order {
+            view: view_now(engine, orders, entered, number, Bytes(room.orig.id), steps),
+            execution: Execution::Status,
+        },
         None => Kind::Unknown {
             id: Bytes(room.orig.id),
             side,

@@ -3,26 +3,22 @@ ghost use Rattle.std.specs.Prelude.{◌≡◌};
 ghost use Rattle.venue_words.specs.Conditions.{fits_id, fits_quote};
 ghost use Rattle.symbol_book.specs.Commands.{takes_command};
 
+use venue_words::limits::{MAX_CENTS, MAX_ID_BYTES};
 use venue_words::{Bytes, Command};
-
-/// The greatest price of a quote in cents, and the greatest length of an id.
-const MOST_CENTS: u32 = 1_999_999;
-
-const LONGEST_ID: usize = 64;
 
 fn fits_quote(price: Option<u32>) -> bool
     ensures { result ≡ fits_quote price }
 {
     match price {
         None => true,
-        Some(cents) => 1 <= cents && cents <= MOST_CENTS,
+        Some(cents) => 1 <= cents && cents <= MAX_CENTS,
     }
 }
 
 fn fits_id(id: &Bytes) -> bool
     ensures { result ≡ fits_id id.now }
 {
-    id.as_slice().len() <= LONGEST_ID
+    id.as_slice().len() <= MAX_ID_BYTES
 }
 
 /// Whether a book of so many markets takes a command: prices of quotes are from 0.01 to 19,999.99, ids have at most 64 bytes, and

@@ -9,7 +9,7 @@ ghost use Rattle.symbol_book.specs.Orders.{IsSmall, HasLeft, HaveLeft};
 use crate::log::ReportLog;
 use crate::showing::view_traded;
 use eager_meaning::{Fill, Order, Party};
-use venue_words::{Event, Kind};
+use venue_words::{Event, Execution, Kind};
 
 /// A trade is added to an order.
 #[tactic(auto, unfolding(eager_meaning::specs::Trades::order_after))]
@@ -66,10 +66,12 @@ fn report_trade(
         event,
         place,
         order.member,
-        Kind::Traded {
+        Kind::Order {
             view,
-            quantity: fill.quantity,
-            price: fill.price,
+            execution: Execution::Traded {
+                quantity: fill.quantity,
+                price: fill.price,
+            },
         },
     )
 }

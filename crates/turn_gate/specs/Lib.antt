@@ -1,4 +1,3 @@
-pub mod EventReports
 pub mod Numbers
 pub mod Rule
 pub mod Steps

@@ -39,17 +39,17 @@ pub(crate) fn submit<V: Held, R: Wait, L: Ledger>(
     seat: &mut TableSeat<V>,
     feed: u32,
     moment: i64,
-    command: Command,
+    command: &Command,
     steps: &mut Steps<L>,
 ) -> Result<u32, FloorRefusal>
     requires table { (seat.old.table_id ≡ table.now.table_id) × (table.now.table_id.words ≡ 3) }
     requires at_rest { IsAtRest seat.old.me.0 × (seat.old.me.1 ≡ []) }
-    requires takes { V.takes seat.old.me.0.setting command ≡ true }
+    requires takes { V.takes seat.old.me.0.setting command.now ≡ true }
     ensures table { (seat.new.table_id ≡ seat.old.table_id) × (seat.new.id ≡ seat.old.id) }
     ensures ok { IfOk result (λ number.
-        RecordsInTurn V.step_limit seat.old.me seat.new.me number feed moment command steps.old steps.new) }
+        RecordsInTurn V.step_limit seat.old.me seat.new.me number feed moment command.now steps.old steps.new) }
     ensures err { IfErr result (λ refusal.
-        RefusesInTurn V.step_limit seat.old.me seat.new.me refusal feed moment command steps.old steps.new) }
+        RefusesInTurn V.step_limit seat.old.me seat.new.me refusal feed moment command.now steps.old steps.new) }
 {
     let ticket = draw_ticket(rt, table, seat);
     let mut value = take_turn(rt, table, seat, ticket);

@@ -121,11 +121,11 @@ impl<V: Held> Gate<V> {
         seat: &mut Seat,
         feed: u32,
         moment: i64,
-        command: Command,
+        command: &Command,
         steps: &mut Steps<L>,
     ) -> Result<u32, FloorRefusal>
         requires gate { seat.old.gate ≡ self.now }
-        requires takes { V.takes self.now.setting command ≡ true }
+        requires takes { V.takes self.now.setting command.now ≡ true }
 
         // The seat stays one of this gate, and has passed one turn more.
         ensures gate { seat.new.gate ≡ seat.old.gate }
@@ -133,7 +133,7 @@ impl<V: Held> Gate<V> {
         ensures turns { seat.new.turns ≡ seat.old.turns + 1 }
 
         // The event stands once in the history, behind all that the seat had seen, and is its own.
-        ensures event { IfOk result (λ number. Extends seat.old.seen seat.new.seen (event number feed moment command)) }
+        ensures event { IfOk result (λ number. Extends seat.old.seen seat.new.seen (event number feed moment command.now)) }
         ensures number { IfOk result (λ number. number ≡ length seat.new.seen) }
         ensures mine { IfOk result (λ number. seat.new.mine ≡ seat.old.mine ++ number ∷ []) }
         ensures room { IfOk result (λ number. number ≤ self.now.limit) }
@@ -145,9 +145,9 @@ impl<V: Held> Gate<V> {
 
         // The steps, where it is said how many an event may take.
         ensures steps { IfOk result (λ number. CostsAtMost (V.step_limit self.now.setting) seat.new.seen
-            (event number feed moment command) steps.old steps.new) }
+            (event number feed moment command.now) steps.old steps.new) }
         ensures idle { OnErr result (CostsNothing (V.step_limit self.now.setting) seat.new.seen
-            (event (length seat.new.seen + 1) feed moment command) steps.old steps.new) }
+            (event (length seat.new.seen + 1) feed moment command.now) steps.old steps.new) }
     {
         let badge = mem::replace(&mut seat.badge, Badge::blank());
         let mut table_seat: TableSeat<V> = badge.into_seat();

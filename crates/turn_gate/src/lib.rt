@@ -10,6 +10,3 @@ mod view;
 
 pub use gate::Gate;
 pub use seat::Seat;
-
-#[cfg(test)]
-mod tests;

@@ -1,23 +1,18 @@
 -- The books that are made take what is configured.
-use Rattle.std.proofs.Common.{◌≡◌, ℕ, zero, suc, ◌+◌, ◌<◌, Bool, true, ◌&&◌, nat_lt, List, [], ◌∷◌, ◌++◌, map, length, get_or, take, sym, refl, ap, ◌∙◌, subst, arith, ⊎_elim}
+use Rattle.std.proofs.Common.{◌≡◌, ℕ, zero, suc, ◌+◌, ◌<◌, Bool, true, ◌&&◌, nat_lt, List, [], ◌∷◌, ◌++◌, map, length, get_or, take, sym, refl, ap, ◌∙◌, subst, arith}
 use Rattle.std.specs.List.{All, AllByRecursion}
 use Rattle.std.proofs.lemmas.List.{map-append, take_more}
 use Rattle.std.proofs.lemmas.List.Elements.{All-head, All-tail, All-weaker}
-use Rattle.venue_words.specs.Conditions.{IsTick, fits_limits}
+use Rattle.venue_words.specs.Conditions.{fits_limits}
 use Rattle.venue_words.specs.Floors.{Setup, is_configured}
 use Rattle.venue_words.specs.declared.command.Command.{Command}
 use Rattle.venue_words.specs.declared.command.Command.TheVariants.{Quote, New, Cancel, Replace, Status}
 use Rattle.symbol_book.specs.Book.{BookView}
 use Rattle.symbol_book.specs.Commands.{takes_command}
 use Rattle.symbol_book.specs.Setting.{setting_of, markets_in}
+use Rattle.symbol_book.specs.SettingLaws.{markets_in-setting_of}
 use Rattle.venue_core.specs.Books.{IsNewBook}
 use Rattle.venue_core.specs.Venues.{TakesConfigured}
-
-small_tick : (tick : ℕ) → IsTick tick → tick < 16
-small_tick tick is = ⊎_elim (λ (e : tick ≡ 2). (omega arith)) (λ (e : tick ≡ 10). (omega arith)) is
-
-markets_back : (markets tick : ℕ) → tick < 16 → markets_in (setting_of markets tick) ≡ markets
-markets_back markets tick lt = omega arith
 
 both : (a b : Bool) → a ≡ true → b ≡ true → (a && b) ≡ true
 both a b p q = (λ k. p k && q k)
@@ -34,7 +29,7 @@ book_takes setting command = takes_command (markets_in setting) command
 
 new_takes : (setup : Setup) (book : BookView) → IsNewBook setup.markets book → TakesConfigured book_takes setup (setting_of book.markets book.tick)
 new_takes setup book new command is fits =
-    let e : markets_in (setting_of book.markets book.tick) ≡ setup.markets = markets_back book.markets book.tick (small_tick book.tick new.tick) ∙ new.markets_are in
+    let e : markets_in (setting_of book.markets book.tick) ≡ setup.markets = markets_in-setting_of book.markets book.tick new.tick ∙ new.markets_are in
     subst (λ (markets : ℕ). takes_command markets command ≡ true) (sym e) (takes_so setup command is fits)
 
 pub all_take : (setup : Setup) (books : List BookView) → All (IsNewBook setup.markets) books

@@ -1,9 +1,13 @@
 pub mod Books
 pub mod Closing
+pub mod ConfigVenues
+pub mod ConfigVenueLaws
 pub mod Joining
 pub mod Marks
 pub mod Plain
+pub mod Runs
 pub mod SeatLaws
 pub mod Shown
+pub mod ShownLaws
 pub mod Turns
 pub mod Venues

@@ -1,11 +1,13 @@
 //! Venues of books.
-ghost use Rattle.std.specs.Prelude.{◌≡◌, length, map, IfOk};
+ghost use Rattle.std.specs.Prelude.{◌≡◌, List, length, map, IfOk};
 ghost use Rattle.std.specs.List.{All};
 ghost use Rattle.venue_words.specs.Conditions.{IsConfig};
 ghost use Rattle.venue_words.specs.Floors.{setup_of};
-ghost use Rattle.symbol_book.specs.Setting.{setting_of};
+ghost use Rattle.turn_gate.specs.Seats.{SeatState};
 ghost use Rattle.venue_core.specs.Books.{IsNewBook};
+ghost use Rattle.venue_core.specs.ConfigVenues.{IsVenueOf, plain_book_mark};
 ghost use Rattle.venue_core.specs.Joining.{IsFirstSeat};
+ghost use Rattle.venue_core.specs.Marks.{mark_of};
 ghost use Rattle.venue_core.specs.Venues.{AreSeatsOf, setup_in, plain_setup};
 
 use crate::plain_venue::PlainVenue;
@@ -38,7 +40,7 @@ fn books_of(alloc: Global, seed: HashSeed, config: &Config) -> Result<Vec<Book>,
 pub fn plain(alloc: Global, seed: HashSeed, config: &Config) -> Result<PlainVenue<Book>, NoMemory>
     requires { IsConfig config.now }
     ensures setup { IfOk result (λ venue. plain_setup (λ book. book.limit) venue ≡ setup_of config.now) }
-    ensures ticks { IfOk result (λ venue. map (λ book. book.tick) venue.books ≡ config.now.ticks) }
+    ensures of_config { IfOk result (λ venue. IsVenueOf config.now (plain_book_mark venue)) }
     ensures books { IfOk result (λ venue. All (IsNewBook (length config.now.markets)) venue.books) }
 {
     let books = books_of(alloc, seed, config)?;
@@ -54,10 +56,12 @@ pub fn make(
 ) -> Result<(Venue<Book>, Seats), NoMemory>
     requires { IsConfig config.now }
     ensures setup { IfOk result (λ made. setup_in made.0 ≡ setup_of config.now) }
-    ensures settings { IfOk result (λ made. map (λ gate. gate.setting) made.0.gates
-        ≡ map (setting_of (length config.now.markets)) config.now.ticks) }
     ensures seats { IfOk result (λ made. AreSeatsOf made.0 made.1) }
     ensures first { IfOk result (λ made. All IsFirstSeat made.1) }
+
+    // Whatever seats of the venue are split from these, they are over a venue of the config.
+    ensures of_config { IfOk result (λ made. (seats : List SeatState)
+        → AreSeatsOf made.0 seats → IsVenueOf config.now (mark_of made.0 seats)) }
 {
     let books = books_of(alloc, seed, config)?;
     Venue::from_books(alloc, config, books)

@@ -13,6 +13,3 @@ pub use plain_venue::PlainVenue;
 pub use seated::Seated;
 pub use seats::Seats;
 pub use venue::Venue;
-
-#[cfg(test)]
-mod tests;

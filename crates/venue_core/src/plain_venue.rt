@@ -74,13 +74,13 @@ fn submit_to<V: Held, L: Ledger>(
     symbol: u32,
     feed: u32,
     moment: i64,
-    command: Command,
+    command: &Command,
     steps: &mut Steps<L>,
 ) -> Result<u32, FloorRefusal>
     requires symbol { symbol < length books.old.items }
-    requires takes { All (λ book. V.takes (V.setting book) command ≡ true) books.old.items }
+    requires takes { All (λ book. V.takes (V.setting book) command.now ≡ true) books.old.items }
     ensures { SubmitsTo V.journal V.limit V.setting V.step_limit books.old.items books.new.items symbol result
-        feed moment command steps.old steps.new }
+        feed moment command.now steps.old steps.new }
 {
     let book = &mut books[symbol as usize];
     book.submit(feed, moment, command, steps)
@@ -92,10 +92,13 @@ impl<V: Held> Floor for PlainVenue<V> {
     ghost use Rattle.venue_words.specs.Journals.{event, StartsWith, IfFull};
     ghost use Rattle.venue_core.specs.Marks.{plain_mark, setting_in};
     ghost use Rattle.venue_core.specs.Shown.{shown_by_book, shown_of};
+    ghost use Rattle.venue_core.specs.ShownLaws.{book_shows_reports};
 
     ghost mark = { λ venue. plain_mark V.limit V.setting venue };
 
     ghost at = { λ venue symbol. shown_of V.journal V.setting V.reports venue symbol };
+
+    ghost reports_in = { λ mark symbol. V.reports (setting_in mark symbol) };
 
     ghost step_limit = { λ mark symbol. V.step_limit (setting_in mark symbol) };
 
@@ -105,12 +108,12 @@ impl<V: Held> Floor for PlainVenue<V> {
         symbol: u32,
         feed: u32,
         moment: i64,
-        command: Command,
+        command: &Command,
         steps: &mut Steps<L>,
     ) -> Result<u32, FloorRefusal>
         requires symbol { symbol < length (plain_setup V.limit self.old).limits }
-        requires configured { is_configured (plain_setup V.limit self.old) command ≡ true }
-        requires limits { fits_limits command ≡ true }
+        requires configured { is_configured (plain_setup V.limit self.old) command.now ≡ true }
+        requires limits { fits_limits command.now ≡ true }
         ensures kept { OnErr result ((other : ℕ) → shown_of V.journal V.setting V.reports self.new other
             ≡ shown_of V.journal V.setting V.reports self.old other) }
 
@@ -121,7 +124,7 @@ impl<V: Held> Floor for PlainVenue<V> {
         ensures reports { StartsWith (shown_of V.journal V.setting V.reports self.new symbol).reports
             (shown_of V.journal V.setting V.reports self.old symbol).reports }
         ensures records { IfOk result (λ number. Records (shown_of V.journal V.setting V.reports self.old symbol)
-            (shown_of V.journal V.setting V.reports self.new symbol) number feed moment command) }
+            (shown_of V.journal V.setting V.reports self.new symbol) number feed moment command.now) }
         ensures room { IfOk result (λ number. number ≤ slice_index (plain_setup V.limit self.old).limits symbol) }
         ensures turns { OnOk result (TurnsRose (shown_of V.journal V.setting V.reports self.old symbol).turns
             (shown_of V.journal V.setting V.reports self.new symbol).turns) }
@@ -135,11 +138,11 @@ impl<V: Held> Floor for PlainVenue<V> {
         ensures steps { IfOk result (λ number. CostsAtMost
             (V.step_limit (setting_in (plain_mark V.limit V.setting self.old) symbol))
             (shown_of V.journal V.setting V.reports self.new symbol).journal
-            (event number feed moment command) steps.old steps.new) }
+            (event number feed moment command.now) steps.old steps.new) }
         ensures idle { OnErr result (CostsNothing
             (V.step_limit (setting_in (plain_mark V.limit V.setting self.old) symbol))
             (shown_of V.journal V.setting V.reports self.new symbol).journal
-            (event (length (shown_of V.journal V.setting V.reports self.new symbol).journal + 1) feed moment command)
+            (event (length (shown_of V.journal V.setting V.reports self.new symbol).journal + 1) feed moment command.now)
             steps.old steps.new) }
     {
         submit_to(&mut self.books, symbol, feed, moment, command, steps)
@@ -148,4 +151,7 @@ impl<V: Held> Floor for PlainVenue<V> {
     fn reports_after(&mut self, symbol: u32, member: u32, from: u32) -> Result<Look, NoMemory> {
         self.books[symbol as usize].look(member, from)
     }
+
+    ghost of_journal = { λ venue symbol within.
+        book_shows_reports V.journal V.limit V.setting V.reports venue symbol within };
 }

@@ -33,14 +33,14 @@ fn submit_at<V: Held, R: Wait, L: Ledger>(
     symbol: u32,
     feed: u32,
     moment: i64,
-    command: Command,
+    command: &Command,
     steps: &mut Steps<L>,
 ) -> Result<u32, FloorRefusal>
     requires seats { AreSeatsOf venue.now seats.old }
     requires symbol { symbol < length venue.now.gates }
-    requires configured { is_configured (setup_in venue.now) command ≡ true }
-    requires limits { fits_limits command ≡ true }
-    ensures { Submits V.step_limit seats.old seats.new symbol result feed moment command steps.old steps.new }
+    requires configured { is_configured (setup_in venue.now) command.now ≡ true }
+    requires limits { fits_limits command.now ≡ true }
+    ensures { Submits V.step_limit seats.old seats.new symbol result feed moment command.now steps.old steps.new }
 {
     let gate = &venue.gates[symbol as usize];
     let seat = &mut seats.list[symbol as usize];
@@ -69,10 +69,13 @@ impl<'a, R: Wait, V: Held> Floor for Seated<'a, R, V> {
     ghost use Rattle.std.specs.Prelude.{slice_get};
     ghost use Rattle.venue_core.specs.Marks.{mark_of, setting_in};
     ghost use Rattle.venue_core.specs.Shown.{shown_by_seat};
+    ghost use Rattle.venue_core.specs.ShownLaws.{seat_shows_reports};
 
     ghost mark = { λ seated. mark_of seated.venue.now seated.seats };
 
     ghost at = { λ seated symbol. shown_by_seat V.reports (slice_get seated.seats symbol) };
+
+    ghost reports_in = { λ mark symbol. V.reports (setting_in mark symbol) };
 
     ghost step_limit = { λ mark symbol. V.step_limit (setting_in mark symbol) };
 
@@ -81,7 +84,7 @@ impl<'a, R: Wait, V: Held> Floor for Seated<'a, R, V> {
         symbol: u32,
         feed: u32,
         moment: i64,
-        command: Command,
+        command: &Command,
         steps: &mut Steps<L>,
     ) -> Result<u32, FloorRefusal> {
         submit_at(
@@ -99,4 +102,7 @@ impl<'a, R: Wait, V: Held> Floor for Seated<'a, R, V> {
     fn reports_after(&mut self, symbol: u32, member: u32, from: u32) -> Result<Look, NoMemory> {
         look_at(self.rt, self.venue, &mut self.seats, symbol, member, from)
     }
+
+    ghost of_journal = { λ seated symbol within.
+        seat_shows_reports V.reports seated.venue.now seated.seats symbol seated.fit within };
 }

@@ -19,6 +19,12 @@ abbrev pub setup_of : Config → Setup
 setup_of config =
     record { members = length config.members; markets = length config.markets; limits = config.limits; ticks = config.ticks }
 
+-- a floor is set up for the members, the markets and the symbols of a config; its limits may be others
+pub record IsSetUpFor (config : Config) (setup : Setup) : Type 0 where
+  pub members : setup.members ≡ length config.members
+  pub markets : setup.markets ≡ length config.markets
+  pub symbols : length setup.limits ≡ length config.symbols
+
 -- what no call of a floor changes: its configured things, and over gates, for each seat, which gate it is of and its part
 pub record FloorMark : Type 0 where
   pub setup : Setup

@@ -1,5 +1,5 @@
 -- Equality of keys as the code tests it.
-use Rattle.std.proofs.Common.{rules, ◌≡◌, true, false, Bool, arith, ap, cond, ◌&&◌, refl, ℕ, ℤ, nat_eq, sym, ◌∙◌, subst, ◌↔◌, IsTrue}
+use Rattle.std.proofs.Common.{rules, ◌≡◌, true, false, Bool, ◌&&◌, refl, nat_eq, sym, subst}
 use Rattle.std.proofs.lemmas.Bool.{and_parts, eqb-true}
 use denote.Enum.Bare.{sameb, same_true}
 use Rattle.venue_words.specs.declared.price.Side.{Side}

@@ -5,14 +5,17 @@ pub mod Conditions
 pub mod FirstRow
 pub mod FirstRowLaws
 pub mod Floors
+pub mod FloorLaws
 pub mod Journals
 pub mod Key
 pub mod KeyLaws
+pub mod Limits
 pub mod ListLaws
 pub mod Moves
 pub mod Peg
 pub mod Price
 pub mod Priority
 pub mod PriorityLaws
+pub mod Reports
 pub mod Retime
 pub mod Rows

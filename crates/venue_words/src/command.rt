@@ -1,5 +1,8 @@
 //! What feeds and members ask of a symbol's book.
+ghost use Rattle.std.specs.Prelude.{◌≡◌, IfOk};
+
 use crate::bytes::Bytes;
+use std::alloc::{AllocError, Global};
 
 /// The fields of a new or replacing order as they were received, before any rule is tested.
 /// An amount counts units of 10^-8, so that 100 shares are 10,000,000,000.
@@ -65,6 +68,47 @@ pub enum Command {
         id: Bytes,
         side: u8,
     },
+}
+
+impl Command {
+    /// A copy of a command, with copies of its ids.
+    pub fn copy_of(alloc: Global, command: &Command) -> Result<Command, AllocError>
+        ensures { IfOk result (λ copy. copy ≡ command.now) }
+    {
+        match command {
+            Command::Quote { market, bid, offer } => Ok(Command::Quote {
+                market: *market,
+                bid: *bid,
+                offer: *offer,
+            }),
+            Command::New { member, id, terms } => Ok(Command::New {
+                member: *member,
+                id: Bytes::copy_of(alloc, id.as_slice())?,
+                terms: *terms,
+            }),
+            Command::Cancel { member, id, orig } => Ok(Command::Cancel {
+                member: *member,
+                id: Bytes::copy_of(alloc, id.as_slice())?,
+                orig: Bytes::copy_of(alloc, orig.as_slice())?,
+            }),
+            Command::Replace {
+                member,
+                id,
+                orig,
+                terms,
+            } => Ok(Command::Replace {
+                member: *member,
+                id: Bytes::copy_of(alloc, id.as_slice())?,
+                orig: Bytes::copy_of(alloc, orig.as_slice())?,
+                terms: *terms,
+            }),
+            Command::Status { member, id, side } => Ok(Command::Status {
+                member: *member,
+                id: Bytes::copy_of(alloc, id.as_slice())?,
+                side: *side,
+            }),
+        }
+    }
 }
 
 /// A command that was taken into the journal of a symbol.

@@ -4,6 +4,7 @@ ghost use Rattle.venue_words.specs.Conditions.{fits_limits};
 ghost use Rattle.venue_words.specs.Journals.{event, StartsWith, reports_of, IfFull};
 ghost use Rattle.venue_words.specs.Floors.{FloorMark, SymbolView, is_configured, TurnsRose, TurnsKept, Records, AddsNone, CostsAtMost, CostsNothing};
 ghost use Rattle.venue_words.specs.declared.command.Event.{Event};
+ghost use Rattle.venue_words.specs.declared.report.Report.{Report};
 
 use crate::command::Command;
 use crate::refusal::{FloorRefusal, NoMemory};
@@ -20,6 +21,9 @@ pub trait Floor {
     /// What it is seen as at each symbol.
     ghost at: { Self → ℕ → SymbolView };
 
+    /// The reports that a journal of a symbol makes.
+    ghost reports_in: { FloorMark → ℕ → List Event → List Report };
+
     /// How many steps an event may take over the journal of a symbol, where that is said.
     ghost step_limit: { FloorMark → ℕ → List Event → Event → Option ℕ };
 
@@ -29,12 +33,12 @@ pub trait Floor {
         symbol: u32,
         feed: u32,
         moment: i64,
-        command: Command,
+        command: &Command,
         steps: &mut Steps<L>,
     ) -> Result<u32, FloorRefusal>
         requires symbol { symbol < length (mark self.old).setup.limits }
-        requires configured { is_configured (mark self.old).setup command ≡ true }
-        requires limits { fits_limits command ≡ true }
+        requires configured { is_configured (mark self.old).setup command.now ≡ true }
+        requires limits { fits_limits command.now ≡ true }
 
         // What stays.
         ensures mark { mark self.new ≡ mark self.old }
@@ -42,7 +46,7 @@ pub trait Floor {
         ensures reports { StartsWith (at self.new symbol).reports (at self.old symbol).reports }
 
         // The command was recorded once, within the limit, and a told number of turns rose.
-        ensures records { IfOk result (λ number. Records (at self.old symbol) (at self.new symbol) number feed moment command) }
+        ensures records { IfOk result (λ number. Records (at self.old symbol) (at self.new symbol) number feed moment command.now) }
         ensures room { IfOk result (λ number. number ≤ slice_index (mark self.old).setup.limits symbol) }
         ensures turns { OnOk result (TurnsRose (at self.old symbol).turns (at self.new symbol).turns) }
 
@@ -54,9 +58,9 @@ pub trait Floor {
 
         // The steps, where it is said how many an event may take.
         ensures steps { IfOk result (λ number. CostsAtMost (step_limit (mark self.old) symbol) (at self.new symbol).journal
-            (event number feed moment command) steps.old steps.new) }
+            (event number feed moment command.now) steps.old steps.new) }
         ensures idle { OnErr result (CostsNothing (step_limit (mark self.old) symbol) (at self.new symbol).journal
-            (event (length (at self.new symbol).journal + 1) feed moment command) steps.old steps.new) };
+            (event (length (at self.new symbol).journal + 1) feed moment command.now) steps.old steps.new) };
 
     /// The member's reports of a symbol from a position on, and how many reports there are in all.
     fn reports_after(&mut self, symbol: u32, member: u32, from: u32) -> Result<Look, NoMemory>
@@ -70,4 +74,8 @@ pub trait Floor {
         ensures turns_kept { OnErr result (TurnsKept (at self.old symbol).turns (at self.new symbol).turns) }
         ensures reports { IfOk result (λ look. look.reports ≡ reports_of member from (at self.new symbol).reports) }
         ensures front { IfOk result (λ look. look.front ≡ length (at self.new symbol).reports) };
+
+    /// What it shows of a configured symbol are the reports that the journal makes which it shows.
+    ghost of_journal: { (floor : Self) (symbol : ℕ) → symbol < length (mark floor).setup.limits
+        → (at floor symbol).reports ≡ reports_in (mark floor) symbol (at floor symbol).journal };
 }

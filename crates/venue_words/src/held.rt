@@ -38,10 +38,10 @@ pub trait Held {
         &mut self,
         feed: u32,
         moment: i64,
-        command: Command,
+        command: &Command,
         steps: &mut Steps<L>,
     ) -> Result<u32, FloorRefusal>
-        requires { takes (setting self.old) command ≡ true }
+        requires { takes (setting self.old) command.now ≡ true }
 
         // What never changes.
         ensures limit { limit self.new ≡ limit self.old }
@@ -49,7 +49,7 @@ pub trait Held {
 
         // The command stands behind the journal, within the limit.
         ensures number { IfOk result (λ number. number ≡ length (journal self.old) + 1) }
-        ensures journal { IfOk result (λ number. journal self.new ≡ journal self.old ++ event number feed moment command ∷ []) }
+        ensures journal { IfOk result (λ number. journal self.new ≡ journal self.old ++ event number feed moment command.now ∷ []) }
         ensures room { IfOk result (λ number. number ≤ limit self.old) }
 
         // A refusal leaves the journal; `Full` comes where it holds its limit.
@@ -57,10 +57,10 @@ pub trait Held {
         ensures full { IfErr result (IfFull (λ found. (found ≡ length (journal self.old)) × (found ≡ limit self.old))) }
 
         // The steps, where it is said how many an event may take.
-        ensures steps { IfOk result (λ number. IfSome (step_limit (setting self.old) (journal self.old) (event number feed moment command))
+        ensures steps { IfOk result (λ number. IfSome (step_limit (setting self.old) (journal self.old) (event number feed moment command.now))
             (λ most. steps.new ≤ steps.old + most)) }
         ensures idle { OnErr result (CostsNothing (step_limit (setting self.old)) (journal self.old)
-            (event (length (journal self.old) + 1) feed moment command) steps.old steps.new) };
+            (event (length (journal self.old) + 1) feed moment command.now) steps.old steps.new) };
 
     /// The member's reports from a position on, and how many reports there are in all.
     fn look(&self, member: u32, from: u32) -> Result<Look, NoMemory>

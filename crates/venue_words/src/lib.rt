@@ -8,6 +8,7 @@ pub mod config;
 pub mod floor;
 pub mod held;
 pub mod items;
+pub mod limits;
 pub mod price;
 pub mod refusal;
 pub mod report;
@@ -22,7 +23,9 @@ pub use held::Held;
 pub use items::Items;
 pub use price::{Best, PRICE_END, Side, price_of, value};
 pub use refusal::{FloorRefusal, NoMemory};
-pub use report::{Kind, Look, Report, View};
+pub use report::{
+    Execution, Kind, LiveOrder, Look, NamedOrder, OrderStatus, RefusedRequest, Report, View,
+};
 pub use row::{Key, Method, Priced, Reference, Rounding, Row, same_key};
 pub use steps::Steps;
 

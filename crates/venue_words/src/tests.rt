@@ -1,5 +1,5 @@
 //! What the contracts of this crate say, on examples.
-use crate::{Best, Bytes, Items, PRICE_END, Side, price_of, value};
+use crate::{Best, Bytes, Items, LiveOrder, OrderStatus, PRICE_END, Side, View, price_of, value};
 use std::test::Fail;
 
 #[test]
@@ -35,5 +35,38 @@ fn lists_grow_at_their_end(rt: HostRuntime) -> Result<(), Fail> {
     assert_eq!(rt; names.len(), 2);
     assert_eq!(rt; names.as_slice()[1].as_slice(), b"Y".as_slice());
     assert_eq!(rt; names.into_vec().len(), 2);
+    Ok(())
+}
+
+#[test]
+fn the_status_of_an_order_tells_whether_it_is_live_and_what_it_traded(
+    rt: HostRuntime,
+) -> Result<(), Fail> {
+    let live = LiveOrder {
+        leaves: 60,
+        price: None,
+        time: 1,
+    };
+    let cases = [
+        (Some(live), 0, OrderStatus::New),
+        (Some(live), 40, OrderStatus::PartiallyFilled),
+        (None, 100, OrderStatus::Filled),
+        (None, 40, OrderStatus::Canceled),
+        (None, 0, OrderStatus::Canceled),
+    ];
+    for (live, cum, wanted) in cases {
+        let view = View {
+            first: 1,
+            id: Bytes::copy_of(rt.alloc(), b"a1")?,
+            side: Side::Buy,
+            quantity: 100,
+            pegged: true,
+            limit: None,
+            cum,
+            notional: 0,
+            live,
+        };
+        assert_eq!(rt; view.status(), wanted, "at {live:?} {cum}");
+    }
     Ok(())
 }

@@ -1,6 +1,7 @@
 //! Both books against the plain program.
 ghost use Rattle.std.specs.Prelude.{◌≡◌, ◌≤◌, [], ◌∷◌, length, IfOk};
-ghost use Rattle.venue_words.specs.Conditions.{IsTick, most_events};
+ghost use Rattle.venue_words.specs.Conditions.{IsTick};
+ghost use Rattle.venue_words.specs.declared.limits.TheConstants.{MAX_EVENTS};
 
 use super::days::{DAYS, FIVE_CENT_DAYS};
 use super::random::random_events;
@@ -22,7 +23,7 @@ pub type PlainBook = BookOver<Sides<Uncounted<FlatSide>>>;
 
 /// A book over plain rows of two markets.
 pub fn plain_book(alloc: Global, limit: u32, tick: u32) -> Result<PlainBook, NoMemory>
-    requires limit { limit ≤ most_events }
+    requires limit { limit ≤ MAX_EVENTS }
     requires tick { IsTick tick }
 {
     let buys = Uncounted::new(FlatSide::new(alloc));
@@ -73,7 +74,7 @@ pub fn submit_all<E: Engine + Drop, L: Ledger>(
     let mut taken = 0u32;
     for event in events {
         if book.takes(&event.command) {
-            match book.submit(event.feed, event.moment, event.command, steps) {
+            match book.submit(event.feed, event.moment, &event.command, steps) {
                 Ok(number) => taken = number,
                 Err(_) => return taken,
             }

@@ -38,7 +38,7 @@ fn refuse_more<L: Ledger>(
         offer: Some(1001),
     };
     assert!(rt; book.takes(&command));
-    let refused = book.submit(1, 0, command, steps);
+    let refused = book.submit(1, 0, &command, steps);
     assert_eq!(rt; refused, Err(FloorRefusal::Full { found: 3 }));
     let after = text_of(alloc, book.reports())?;
     assert_eq!(rt; after.as_str(), before.as_str());

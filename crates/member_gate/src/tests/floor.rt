@@ -1,21 +1,62 @@
-//! A floor of one symbol, over the plain program of its book.
-ghost use Rattle.std.specs.Prelude.{◌≡◌, drop};
+//! A floor of one book, over the plain program. Other symbols have none.
+ghost use Rattle.std.specs.Prelude.{◌≡◌, drop, IfOk};
 ghost use Rattle.venue_words.specs.Journals.{reports_of};
 
 use eager_meaning::plain_run;
-use std::alloc::Global;
+use std::alloc::{AllocError, Global};
 use std::sync::ledger::Ledger;
 use venue_words::{
-    Command, Config, Event, Floor, FloorRefusal, Items, Look, NoMemory, Report, Steps,
+    Bytes, Command, Config, Event, Floor, FloorRefusal, Items, Look, NoMemory, Report, Steps,
 };
 
-/// A floor of one symbol. At each look it works its whole journal again.
+/// A floor with a book for its first symbol. At each look it works its whole journal again.
 #[derive(Drop)]
 pub struct PlainFloor {
     pub alloc: Global,
     pub config: Config,
     pub journal: Vec<Event>,
     pub own: Vec<u32>,
+    /// How often symbols without a book were asked for their reports.
+    pub asked: u32,
+}
+
+/// A copy of a command.
+fn copy_of(alloc: Global, command: &Command) -> Result<Command, AllocError>
+    ensures { IfOk result (λ copy. copy ≡ command.now) }
+{
+    Ok(match command {
+        Command::Quote { market, bid, offer } => Command::Quote {
+            market: *market,
+            bid: *bid,
+            offer: *offer,
+        },
+        Command::New { member, id, terms } => Command::New {
+            member: *member,
+            id: Bytes::copy_of(alloc, id.as_slice())?,
+            terms: *terms,
+        },
+        Command::Cancel { member, id, orig } => Command::Cancel {
+            member: *member,
+            id: Bytes::copy_of(alloc, id.as_slice())?,
+            orig: Bytes::copy_of(alloc, orig.as_slice())?,
+        },
+        Command::Replace {
+            member,
+            id,
+            orig,
+            terms,
+        } => Command::Replace {
+            member: *member,
+            id: Bytes::copy_of(alloc, id.as_slice())?,
+            orig: Bytes::copy_of(alloc, orig.as_slice())?,
+            terms: *terms,
+        },
+        Command::Status { member, id, side } => Command::Status {
+            member: *member,
+            id: Bytes::copy_of(alloc, id.as_slice())?,
+            side: *side,
+        },
+    })
 }
 
 /// Takes reports from the front.
@@ -40,11 +81,13 @@ fn keep_own(reports: &mut Vec<Report>, member: u32, from: u32)
 impl Floor for PlainFloor {
     ghost use Rattle.std.specs.Prelude.{ℕ, [], None, cond, ◌==◌};
     ghost use Rattle.venue_words.specs.Floors.{setup_of};
-    ghost use Rattle.member_gate.specs.PlainFloors.{view_at};
+    ghost use Rattle.member_gate.specs.PlainFloors.{view_at, reports_in, shows_reports};
 
     ghost mark = { λ floor. record { setup = setup_of floor.config; seats = [] } };
 
     ghost at = { λ floor symbol. view_at floor.config floor.journal.items floor.own.items symbol };
+
+    ghost reports_in = { λ mark symbol journal. reports_in mark symbol journal };
 
     ghost step_limit = { λ mark symbol journal event. None };
 
@@ -53,7 +96,7 @@ impl Floor for PlainFloor {
         symbol: u32,
         feed: u32,
         moment: i64,
-        command: Command,
+        command: &Command,
         _steps: &mut Steps<L>,
     ) -> Result<u32, FloorRefusal> {
         let Ok(found) = u32::try_from(self.journal.len()) else {
@@ -66,6 +109,9 @@ impl Floor for PlainFloor {
         if symbol != 0 || limit < found || self.own.reserve(1).is_err() {
             return Err(FloorRefusal::NoMemory);
         }
+        let Ok(command) = copy_of(self.alloc, command) else {
+            return Err(FloorRefusal::NoMemory);
+        };
         if self.journal.reserve(1).is_err() {
             return Err(FloorRefusal::NoMemory);
         }
@@ -81,8 +127,15 @@ impl Floor for PlainFloor {
     }
 
     fn reports_after(&mut self, symbol: u32, member: u32, from: u32) -> Result<Look, NoMemory> {
+        if symbol != 0 {
+            self.asked = self.asked.saturating_add(1);
+            return Ok(Look {
+                reports: Items(Vec::new(self.alloc)),
+                front: 0,
+            });
+        }
         let ticks = self.config.ticks.as_slice();
-        if symbol != 0 || ticks.is_empty() || (ticks[0] != 2 && ticks[0] != 10) {
+        if ticks.is_empty() || (ticks[0] != 2 && ticks[0] != 10) {
             return Err(NoMemory);
         }
         let mut reports = plain_run(self.alloc, &self.config, 0, &self.journal)?;
@@ -95,4 +148,6 @@ impl Floor for PlainFloor {
             front,
         })
     }
+
+    ghost of_journal = { λ floor symbol _. shows_reports floor.config floor.journal.items floor.own.items symbol };
 }

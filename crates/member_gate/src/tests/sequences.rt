@@ -1,11 +1,11 @@
 //! Sequences of what comes to the desk of A, with what is sent.
 use super::{Case, Received};
 
-const LOGON: &[u8] = b"35=A|49=A|56=PEGV|34=1|52=20240102-14:30:00|98=0|108=30|1137=9|";
+pub const LOGON: &[u8] = b"35=A|49=A|56=PEGV|34=1|52=20240102-14:30:00|98=0|108=30|1137=9|";
 
 const LOGON_ANSWER: &[u8] = b"35=A|49=PEGV|56=A|34=1|52=20240102-14:30:00.000|98=0|108=30|1137=9|";
 
-const ORDER: &[u8] =
+pub const ORDER: &[u8] =
     b"35=D|49=A|56=PEGV|34=2|52=20240102-14:30:00|11=a1|55=X|54=1|38=100|40=P|1094=2|60=20240102-14:30:00|";
 
 /// A logs on.

@@ -1,7 +1,8 @@
 //! The limits on lines and on numbers of things.
-use crate::{LimitCause, LineCause, LineFault, MAX_LINE_BYTES, read_header, read_line};
+use crate::{LimitCause, LineCause, LineFault, read_header, read_line};
 use std::alloc::{AllocError, Global};
 use std::test::Fail;
+use venue_words::limits::MAX_LINE_BYTES;
 use venue_words::{Config, Items};
 
 /// A front, and so many more times the byte `A`.

@@ -17,7 +17,7 @@ returns c =
       c.in_ok-body.ensures.items,
       c.first_of.ensures,
       c.id_of.ensures,
-      c.state_of.ensures,
+      c.status_of.ensures,
       c.answer_of.ensures,
       c.refusal_of.ensures,
       c.rule_of.ensures,

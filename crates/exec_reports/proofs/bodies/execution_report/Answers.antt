@@ -31,7 +31,7 @@ returns c =
       c.first_of.ensures,
       c.id_of.ensures,
       c.type_of_report.ensures,
-      c.state_of.ensures,
+      c.status_of.ensures,
       c.reason_of.ensures,
       c.side_of.ensures,
       c.type_of.ensures,

@@ -1,9 +1,19 @@
 -- One more symbol was asked for; behind the last one the cursors that are left stay.
-use Rattle.std.proofs.Common.{◌≡◌, ℕ, ◌<◌, max, List, ◌∷◌, [], ◌++◌, length, drop, ◌∙◌, ap, subst, arith}
+use Rattle.std.proofs.Common.{◌≡◌, ℕ, ◌<◌, ◌≤◌, max, List, ◌∷◌, [], ◌++◌, length, drop, ◌∙◌, ap, subst, arith}
+use Rattle.venue_words.specs.Floors.{SymbolView, TurnsRose}
 use Rattle.member_gate.specs.Answering.{name_at}
-use Rattle.member_gate.specs.Reporting.{messages_at}
-use Rattle.member_gate.proofs.Looking.{Looked, looked_more, moved_on}
+use Rattle.member_gate.specs.Reporting.{cursor_at, messages_at, IsAskedForNews}
+use Rattle.member_gate.proofs.Looking.{Looked, for_news, looked_more, moved_on}
 use Rattle.member_gate.proofs.reporting.look_past.Goals as goal
+
+-- the symbol was asked for where it has news
+news : {F : Type 0} (at : F → ℕ → SymbolView) (cursors : List ℕ) (symbol from : ℕ) (now next : F) → from ≡ cursor_at cursors symbol
+    → (length (at now symbol).reports ≤ from → at next symbol ≡ at now symbol) → (from < length (at now symbol).reports → TurnsRose (at now symbol).turns (at next symbol).turns)
+    → IsAskedForNews (cursor_at cursors symbol) (at now symbol) (at next symbol)
+news at cursors symbol from now next e unasked rose = record {
+  unasked = λ h. unasked (omega arith);
+  rose = λ h. rose (omega arith);
+}
 
 pub loop-symbol-preserved : goal.loop-symbol-preserved
 loop-symbol-preserved g c =
@@ -15,8 +25,9 @@ loop-symbol-preserved g c =
     let reports = (g.F.Floor.at c.look_where_past.new.floor symbol).reports in record {
       mark = c.look_where_past.ensures.mark ∙ c.loop-symbol.invariant.mark;
       looked =
-          looked_more g.F.Floor.at config c.args.member c.args.cursors.now (λ _ _. Unit {0}) c.args.floor.now symbol c.loop-symbol.floor c.look_where_past.new.floor messages c.look_where_past.new.messages.items fronts c.push.new.self.items c.in_ok-front.front
-          c.loop-symbol.invariant.looked inside c.look_where_past.ensures.others c.look_where_past.ensures.waited tt
+          looked_more g.F.Floor.at config c.args.member c.args.cursors.now (for_news c.args.cursors.now) c.args.floor.now symbol c.loop-symbol.floor c.look_where_past.new.floor messages c.look_where_past.new.messages.items fronts c.push.new.self.items c.in_ok-front.front
+          c.loop-symbol.invariant.looked inside c.look_where_past.ensures.others c.look_where_past.ensures.waited
+          (news g.F.Floor.at c.args.cursors.now symbol c.cursor_at-from.result c.loop-symbol.floor c.look_where_past.new.floor c.cursor_at-from.ensures c.look_where_past.ensures.unasked c.in_ok-front.ensures.turns)
           (c.in_ok-front.ensures.messages ∙ ap (λ (from : ℕ). messages ++ messages_at config c.args.member (name_at config.symbols symbol) from reports) c.cursor_at-from.ensures)
           c.in_ok-front.ensures.front
           (c.in_ok-push.ensures.items ∙ ap (λ (k : ℕ). fronts ++ k ∷ []) (c.max-moved.ensures ∙ ap (λ (k : ℕ). max k c.in_ok-front.front) c.cursor_at-from.ensures));
@@ -27,6 +38,6 @@ returns-clause-fronts g c =
     let config = c.args.config.now in
     let floor = c.loop-symbol.floor in
     let all : c.loop-symbol.symbol ≡ length config.symbols = omega arith in
-    let looked = subst (λ (k : ℕ). Looked g.F.Floor.at config c.args.member c.args.cursors.now (λ _ _. Unit {0}) c.args.floor.now k floor c.loop-symbol.messages.items c.loop-symbol.fronts.items) all c.loop-symbol.invariant.looked in
-    moved_on g.F.Floor.at config c.args.member c.args.cursors.now (λ _ _. Unit {0}) c.args.floor.now floor c.loop-symbol.messages.items c.loop-symbol.fronts.items _ looked
+    let looked = subst (λ (k : ℕ). Looked g.F.Floor.at config c.args.member c.args.cursors.now (for_news c.args.cursors.now) c.args.floor.now k floor c.loop-symbol.messages.items c.loop-symbol.fronts.items) all c.loop-symbol.invariant.looked in
+    moved_on g.F.Floor.at config c.args.member c.args.cursors.now (for_news c.args.cursors.now) c.args.floor.now floor c.loop-symbol.messages.items c.loop-symbol.fronts.items _ looked
     (c.in_ok-extend_from_slice.ensures.items ∙ ap (λ (xs : List ℕ). c.loop-symbol.fronts.items ++ xs) (c.behind.ensures ∙ ap (λ (k : ℕ). drop k c.args.cursors.now) c.len-count.ensures))

@@ -1,5 +1,5 @@
 -- Where all reports were gone through, nothing is added.
-use Rattle.std.proofs.Common.{◌≡◌, ◌<◌, ◌≤◌, ℕ, List, ◌++◌, length, sym, ◌∙◌, ap, append-nil, arith}
+use Rattle.std.proofs.Common.{List, ◌++◌, sym, ◌∙◌, ap, append-nil, arith}
 use Rattle.session_core.specs.declared.message.Message.{Message}
 use Rattle.member_gate.specs.Answering.{name_at}
 use Rattle.member_gate.specs.QuietLaws.{none_behind}

@@ -11,6 +11,6 @@ returns-in-Some-2-clause-replies g c =
     let reply : option_to_list (Some c.in-Some-2.reply) ≡ (answer c.args.origin.config.now c.args.origin.member c.args.origin.moment c.take.new.self c.in-Some.request).replies =
     cc (c.in_ok-reply.ensures.reply, c.in-Some-2.is, c.in-Some.request-is) in
     reply_added c.args.origin.config.now c.args.origin.member c.args.origin.moment _ c.args.session.now c.take.new.self c.args.frame.now c.in_ok-turn.turn c.in-Some.request c.in-Some-2.reply
-    c.args.replies.now.items c.into_vec-own.result.items c.reserve.new.self.items c.push_reserved.new.self.items moment
+    c.args.worked.now.replies.items c.into_vec-own.result.items c.reserve.new.self.items c.push_reserved.new.self.items moment
     c.in_ok-turn.ensures.turn c.in_ok-turn.ensures.machine c.in-Some.is reply c.into_vec-own.ensures
     (c.reserve.ensures.items ∙ c.in_ok-append.ensures.items) c.push_reserved.ensures.items

@@ -38,9 +38,9 @@ frames-preserved g c =
       mark = c.work_frame.ensures.mark ∙ inv.mark;
       underway =
           underway_more at limit (g.F.Floor.mark c.args.floor.now) origin.config.now origin.member origin.feed origin.moment
-          c.args.session.now c.args.framer.now.kept c.args.replies.now.items (c.args.floor.now, c.args.steps.now)
-          c.frames.session c.work_frame.new.session old new frame c.frames.replies.items c.work_frame.new.replies.items (c.frames.floor, c.frames.steps) (c.work_frame.new.floor, c.work_frame.new.steps)
-          inv.underway given done.session done.replies took;
+          c.args.session.now c.args.framer.now.kept c.args.worked.now.replies.items (c.args.floor.now, c.args.steps.now)
+          c.frames.session c.work_frame.new.session old new frame c.frames.worked.replies.items c.work_frame.new.worked.replies.items c.frames.worked.submitted c.work_frame.new.worked.submitted (c.frames.floor, c.frames.steps) (c.work_frame.new.floor, c.work_frame.new.steps)
+          inv.underway given done.session done.replies done.count took;
     }
 
 pub returns-in_err-work_frame-in-Frame-clause-stopped : goal.returns-in_err-work_frame-in-Frame-clause-stopped
@@ -58,10 +58,10 @@ returns-in_err-work_frame-in-Frame-clause-stopped g c =
     let one = work_of_frame origin.config.now origin.member origin.moment c.frames.session frame in
     let none = subst (λ (m : FloorMark). TookNone at limit m origin.feed origin.moment refusal one.submissions (c.frames.floor, c.frames.steps) (c.work_frame.new.floor, c.work_frame.new.steps)) inv.mark left.none in
     let p = err_from_is_err_and c.from_residual.result c.from_residual.ensures.1 in
-    rw (p.1, p.2)
+    rw (p.1, p.2, left.uncounted)
     (stopped_at_frame at limit (g.F.Floor.mark c.args.floor.now) origin.config.now origin.member origin.feed origin.moment
-    c.args.session.now c.args.framer.now.kept c.args.replies.now.items (c.args.floor.now, c.args.steps.now)
-    c.frames.session _ old new frame c.frames.replies.items refusal (c.frames.floor, c.frames.steps) (c.work_frame.new.floor, c.work_frame.new.steps) inv.underway given left.gave_up none)
+    c.args.session.now c.args.framer.now.kept c.args.worked.now.replies.items (c.args.floor.now, c.args.steps.now)
+    c.frames.session _ old new frame c.frames.worked.replies.items c.frames.worked.submitted refusal (c.frames.floor, c.frames.steps) (c.work_frame.new.floor, c.work_frame.new.steps) inv.underway given left.gave_up none)
 
 pub returns-in-Wait-clause-session : goal.returns-in-Wait-clause-session
 returns-in-Wait-clause-session g c =
@@ -69,8 +69,8 @@ returns-in-Wait-clause-session g c =
     let old = c.frames.framer in
     let new = c.next.follows.lender-at-none in
     (worked_whole g.F.Floor.at g.F.Floor.step_limit (g.F.Floor.mark c.args.floor.now) origin.config.now origin.member origin.feed origin.moment
-    c.args.session.now c.args.framer.now.kept c.args.replies.now.items (c.args.floor.now, c.args.steps.now)
-    c.frames.session old new c.frames.replies.items (c.frames.floor, c.frames.steps) c.frames.invariant.underway
+    c.args.session.now c.args.framer.now.kept c.args.worked.now.replies.items (c.args.floor.now, c.args.steps.now)
+    c.frames.session old new c.frames.worked.replies.items c.frames.worked.submitted (c.frames.floor, c.frames.steps) c.frames.invariant.underway
     (subst (λ (r : Next). IsNext old r new) c.in-Wait.is c.next.follows.holds-at-none)).session_is
 
 pub returns-in-Wait-clause-replies : goal.returns-in-Wait-clause-replies
@@ -79,8 +79,8 @@ returns-in-Wait-clause-replies g c =
     let old = c.frames.framer in
     let new = c.next.follows.lender-at-none in
     (worked_whole g.F.Floor.at g.F.Floor.step_limit (g.F.Floor.mark c.args.floor.now) origin.config.now origin.member origin.feed origin.moment
-    c.args.session.now c.args.framer.now.kept c.args.replies.now.items (c.args.floor.now, c.args.steps.now)
-    c.frames.session old new c.frames.replies.items (c.frames.floor, c.frames.steps) c.frames.invariant.underway
+    c.args.session.now c.args.framer.now.kept c.args.worked.now.replies.items (c.args.floor.now, c.args.steps.now)
+    c.frames.session old new c.frames.worked.replies.items c.frames.worked.submitted (c.frames.floor, c.frames.steps) c.frames.invariant.underway
     (subst (λ (r : Next). IsNext old r new) c.in-Wait.is c.next.follows.holds-at-none)).replies_are
 
 pub returns-in-Wait-clause-unread : goal.returns-in-Wait-clause-unread
@@ -89,9 +89,19 @@ returns-in-Wait-clause-unread g c =
     let old = c.frames.framer in
     let new = c.next.follows.lender-at-none in
     (worked_whole g.F.Floor.at g.F.Floor.step_limit (g.F.Floor.mark c.args.floor.now) origin.config.now origin.member origin.feed origin.moment
-    c.args.session.now c.args.framer.now.kept c.args.replies.now.items (c.args.floor.now, c.args.steps.now)
-    c.frames.session old new c.frames.replies.items (c.frames.floor, c.frames.steps) c.frames.invariant.underway
+    c.args.session.now c.args.framer.now.kept c.args.worked.now.replies.items (c.args.floor.now, c.args.steps.now)
+    c.frames.session old new c.frames.worked.replies.items c.frames.worked.submitted (c.frames.floor, c.frames.steps) c.frames.invariant.underway
     (subst (λ (r : Next). IsNext old r new) c.in-Wait.is c.next.follows.holds-at-none)).unread
+
+pub returns-in-Wait-clause-count : goal.returns-in-Wait-clause-count
+returns-in-Wait-clause-count g c =
+    let origin = c.args.origin in
+    let old = c.frames.framer in
+    let new = c.next.follows.lender-at-none in
+    (worked_whole g.F.Floor.at g.F.Floor.step_limit (g.F.Floor.mark c.args.floor.now) origin.config.now origin.member origin.feed origin.moment
+    c.args.session.now c.args.framer.now.kept c.args.worked.now.replies.items (c.args.floor.now, c.args.steps.now)
+    c.frames.session old new c.frames.worked.replies.items c.frames.worked.submitted (c.frames.floor, c.frames.steps) c.frames.invariant.underway
+    (subst (λ (r : Next). IsNext old r new) c.in-Wait.is c.next.follows.holds-at-none)).count_is
 
 pub returns-in-Wait-clause-took : goal.returns-in-Wait-clause-took
 returns-in-Wait-clause-took g c =
@@ -99,8 +109,8 @@ returns-in-Wait-clause-took g c =
     let old = c.frames.framer in
     let new = c.next.follows.lender-at-none in
     (worked_whole g.F.Floor.at g.F.Floor.step_limit (g.F.Floor.mark c.args.floor.now) origin.config.now origin.member origin.feed origin.moment
-    c.args.session.now c.args.framer.now.kept c.args.replies.now.items (c.args.floor.now, c.args.steps.now)
-    c.frames.session old new c.frames.replies.items (c.frames.floor, c.frames.steps) c.frames.invariant.underway
+    c.args.session.now c.args.framer.now.kept c.args.worked.now.replies.items (c.args.floor.now, c.args.steps.now)
+    c.frames.session old new c.frames.worked.replies.items c.frames.worked.submitted (c.frames.floor, c.frames.steps) c.frames.invariant.underway
     (subst (λ (r : Next). IsNext old r new) c.in-Wait.is c.next.follows.holds-at-none)).took
 
 pub returns-in-TooLong-clause-session : goal.returns-in-TooLong-clause-session
@@ -110,8 +120,8 @@ returns-in-TooLong-clause-session g c =
     let new = c.next.follows.lender-at-none in
     let done = c.in_ok-end_too_long-in-TooLong.ensures in
     (worked_to_limit g.F.Floor.at g.F.Floor.step_limit (g.F.Floor.mark c.args.floor.now) origin.config.now origin.member origin.feed origin.moment
-    c.args.session.now c.args.framer.now.kept c.args.replies.now.items (c.args.floor.now, c.args.steps.now)
-    c.frames.session c.end_too_long.new.session old new c.frames.replies.items c.end_too_long.new.replies.items (c.frames.floor, c.frames.steps) c.frames.invariant.underway
+    c.args.session.now c.args.framer.now.kept c.args.worked.now.replies.items (c.args.floor.now, c.args.steps.now)
+    c.frames.session c.end_too_long.new.session old new c.frames.worked.replies.items c.end_too_long.new.replies.items c.frames.worked.submitted (c.frames.floor, c.frames.steps) c.frames.invariant.underway
     (subst (λ (r : Next). IsNext old r new) c.in-TooLong.is c.next.follows.holds-at-none) done.session done.replies).session_is
 
 pub returns-in-TooLong-clause-replies : goal.returns-in-TooLong-clause-replies
@@ -121,8 +131,8 @@ returns-in-TooLong-clause-replies g c =
     let new = c.next.follows.lender-at-none in
     let done = c.in_ok-end_too_long-in-TooLong.ensures in
     (worked_to_limit g.F.Floor.at g.F.Floor.step_limit (g.F.Floor.mark c.args.floor.now) origin.config.now origin.member origin.feed origin.moment
-    c.args.session.now c.args.framer.now.kept c.args.replies.now.items (c.args.floor.now, c.args.steps.now)
-    c.frames.session c.end_too_long.new.session old new c.frames.replies.items c.end_too_long.new.replies.items (c.frames.floor, c.frames.steps) c.frames.invariant.underway
+    c.args.session.now c.args.framer.now.kept c.args.worked.now.replies.items (c.args.floor.now, c.args.steps.now)
+    c.frames.session c.end_too_long.new.session old new c.frames.worked.replies.items c.end_too_long.new.replies.items c.frames.worked.submitted (c.frames.floor, c.frames.steps) c.frames.invariant.underway
     (subst (λ (r : Next). IsNext old r new) c.in-TooLong.is c.next.follows.holds-at-none) done.session done.replies).replies_are
 
 pub returns-in-TooLong-clause-unread : goal.returns-in-TooLong-clause-unread
@@ -132,9 +142,20 @@ returns-in-TooLong-clause-unread g c =
     let new = c.next.follows.lender-at-none in
     let done = c.in_ok-end_too_long-in-TooLong.ensures in
     (worked_to_limit g.F.Floor.at g.F.Floor.step_limit (g.F.Floor.mark c.args.floor.now) origin.config.now origin.member origin.feed origin.moment
-    c.args.session.now c.args.framer.now.kept c.args.replies.now.items (c.args.floor.now, c.args.steps.now)
-    c.frames.session c.end_too_long.new.session old new c.frames.replies.items c.end_too_long.new.replies.items (c.frames.floor, c.frames.steps) c.frames.invariant.underway
+    c.args.session.now c.args.framer.now.kept c.args.worked.now.replies.items (c.args.floor.now, c.args.steps.now)
+    c.frames.session c.end_too_long.new.session old new c.frames.worked.replies.items c.end_too_long.new.replies.items c.frames.worked.submitted (c.frames.floor, c.frames.steps) c.frames.invariant.underway
     (subst (λ (r : Next). IsNext old r new) c.in-TooLong.is c.next.follows.holds-at-none) done.session done.replies).unread
+
+pub returns-in-TooLong-clause-count : goal.returns-in-TooLong-clause-count
+returns-in-TooLong-clause-count g c =
+    let origin = c.args.origin in
+    let old = c.frames.framer in
+    let new = c.next.follows.lender-at-none in
+    let done = c.in_ok-end_too_long-in-TooLong.ensures in
+    (worked_to_limit g.F.Floor.at g.F.Floor.step_limit (g.F.Floor.mark c.args.floor.now) origin.config.now origin.member origin.feed origin.moment
+    c.args.session.now c.args.framer.now.kept c.args.worked.now.replies.items (c.args.floor.now, c.args.steps.now)
+    c.frames.session c.end_too_long.new.session old new c.frames.worked.replies.items c.end_too_long.new.replies.items c.frames.worked.submitted (c.frames.floor, c.frames.steps) c.frames.invariant.underway
+    (subst (λ (r : Next). IsNext old r new) c.in-TooLong.is c.next.follows.holds-at-none) done.session done.replies).count_is
 
 pub returns-in-TooLong-clause-took : goal.returns-in-TooLong-clause-took
 returns-in-TooLong-clause-took g c =
@@ -143,8 +164,8 @@ returns-in-TooLong-clause-took g c =
     let new = c.next.follows.lender-at-none in
     let done = c.in_ok-end_too_long-in-TooLong.ensures in
     (worked_to_limit g.F.Floor.at g.F.Floor.step_limit (g.F.Floor.mark c.args.floor.now) origin.config.now origin.member origin.feed origin.moment
-    c.args.session.now c.args.framer.now.kept c.args.replies.now.items (c.args.floor.now, c.args.steps.now)
-    c.frames.session c.end_too_long.new.session old new c.frames.replies.items c.end_too_long.new.replies.items (c.frames.floor, c.frames.steps) c.frames.invariant.underway
+    c.args.session.now c.args.framer.now.kept c.args.worked.now.replies.items (c.args.floor.now, c.args.steps.now)
+    c.frames.session c.end_too_long.new.session old new c.frames.worked.replies.items c.end_too_long.new.replies.items c.frames.worked.submitted (c.frames.floor, c.frames.steps) c.frames.invariant.underway
     (subst (λ (r : Next). IsNext old r new) c.in-TooLong.is c.next.follows.holds-at-none) done.session done.replies).took
 
 pub returns-in_err-end_too_long-in-TooLong-clause-stopped : goal.returns-in_err-end_too_long-in-TooLong-clause-stopped
@@ -156,6 +177,6 @@ returns-in_err-end_too_long-in-TooLong-clause-stopped g c =
     let p = err_from_is_err_and c.from_residual-in_err-end_too_long-in-TooLong.result c.from_residual-in_err-end_too_long-in-TooLong.ensures.1 in
     rw (p.1, p.2)
     (stopped_at_limit g.F.Floor.at g.F.Floor.step_limit (g.F.Floor.mark c.args.floor.now) origin.config.now origin.member origin.feed origin.moment
-    c.args.session.now c.args.framer.now.kept c.args.replies.now.items (c.args.floor.now, c.args.steps.now)
-    c.frames.session _ old new c.frames.replies.items c.in_err-end_too_long-in-TooLong.field-0.0 (c.frames.floor, c.frames.steps) c.frames.invariant.underway
+    c.args.session.now c.args.framer.now.kept c.args.worked.now.replies.items (c.args.floor.now, c.args.steps.now)
+    c.frames.session _ old new c.frames.worked.replies.items c.frames.worked.submitted c.in_err-end_too_long-in-TooLong.field-0.0 (c.frames.floor, c.frames.steps) c.frames.invariant.underway
     (subst (λ (r : Next). IsNext old r new) c.in-TooLong.is c.next.follows.holds-at-none) left.no_memory left.gave_up)

@@ -7,8 +7,8 @@ abbrev pub invariant-frames : goal.invariant-frames
 invariant-frames g l = record {
   mark : g.F.Floor.mark l.floor ≡ g.F.Floor.mark l.initial.floor;
   underway : Underway g.F.Floor.at g.F.Floor.step_limit (g.F.Floor.mark l.initial.floor) l.origin.config.now l.origin.member l.origin.feed l.origin.moment
-      l.initial.session l.initial.framer.kept l.initial.replies.items (l.initial.floor, l.initial.steps)
-      l.session l.framer.kept l.replies.items (l.floor, l.steps);
+      l.initial.session l.initial.framer.kept l.initial.worked.replies.items (l.initial.floor, l.initial.steps)
+      l.session l.framer.kept l.worked.replies.items l.worked.submitted (l.floor, l.steps);
 }
 
 abbrev pub decreases-frames : goal.decreases-frames

@@ -1,6 +1,5 @@
 -- What an order asks of a book can be submitted.
-use Rattle.std.proofs.Common.{rules, ◌≡◌, Ok, arith}
-use Rattle.std.proofs.lemmas.Grind.{common_steps}
+use Rattle.std.proofs.Common.{rules, ◌≡◌, Ok}
 use Rattle.order_fields.specs.Order.{order}
 use Rattle.order_fields.proofs.Submitting.{can_submit}
 use Rattle.order_fields.proofs.order.read_order.Goals as goal

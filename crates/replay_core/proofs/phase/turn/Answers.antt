@@ -1,42 +1,36 @@
-use Rattle.std.proofs.Common.{ℕ, List, Ok, sym, ◌∙◌, ap, subst}
+use Rattle.std.proofs.Common.{◌≡◌, ℕ, List, Ok, sym, ◌∙◌, ap, subst}
+use Rattle.script_text.specs.declared.header.Header.{Header}
 use Rattle.replay_core.specs.Phases.{IsAtStage}
+use Rattle.replay_core.specs.Playing.{before_body}
+use Rattle.replay_core.specs.Stages.{StandsFor}
 use Rattle.replay_core.specs.declared.phase.Phase.{Phase}
-use Rattle.replay_core.proofs.Turns.{head_refused, head_goes_on, head_ends, body_refused, body_goes_on, body_steps}
+use Rattle.replay_core.proofs.Turns.{head_refused, head_goes_on, head_ends, body_worked, body_steps}
 use Rattle.replay_core.proofs.phase.turn.Goals as goal
+
+pub returns-in-Ok-clause-answer : goal.returns-in-Ok-clause-answer
+returns-in-Ok-clause-answer g c stage s =
+    let stands = subst (λ (h : Header). StandsFor g.F.Floor.at c.in-Ok.player (before_body h.config)) c.replace-whole.ensures.value c.in-Ok.ensures in
+    let x = head_ends g.F.Floor.at c.args.line c.in-Head.header c.line.new.self c.in-Ok-true.field-0 stage c.args.text.now c.in-Ok.player
+    (subst (λ (p : Phase _). IsAtStage g.F.Floor.at p stage) c.in-Head.is s) c.in-Ok-true.ensures.line c.in-Ok-true.field-0-test stands in
+    (x.0, x.1 ∙ ap (λ (t : List ℕ). Ok (x.0, t)) (sym c.requires.empty), x.2)
+
+pub returns-in-Ok-false-clause-answer : goal.returns-in-Ok-false-clause-answer
+returns-in-Ok-false-clause-answer g c stage s =
+    let x = head_goes_on g.F.Floor.at c.args.line c.in-Head.header c.line.new.self c.in-Ok-false.field-0 stage c.args.text.now
+    (subst (λ (p : Phase _). IsAtStage g.F.Floor.at p stage) c.in-Head.is s) c.in-Ok-false.ensures.line c.in-Ok-false.field-0-test in
+    (x.0, x.1 ∙ ap (λ (t : List ℕ). Ok (x.0, t)) (sym c.requires.empty), x.2)
 
 pub returns-in-Err-clause-answer : goal.returns-in-Err-clause-answer
 returns-in-Err-clause-answer g c stage s =
     head_refused g.F.Floor.at c.args.line c.in-Head.header stage c.args.text.now c.in-Err.fault
     (subst (λ (p : Phase _). IsAtStage g.F.Floor.at p stage) c.in-Head.is s) c.in-Err.ensures.line
 
-pub returns-in_ok-new-in-Head-clause-answer : goal.returns-in_ok-new-in-Head-clause-answer
-returns-in_ok-new-in-Head-clause-answer g c stage s =
-    let x = head_ends g.F.Floor.at c.args.line c.in-Head.header c.line.new.self c.in-Ok.whole stage c.args.text.now c.in_ok-new-in-Head.field-0
-    (subst (λ (p : Phase _). IsAtStage g.F.Floor.at p stage) c.in-Head.is s) c.in-Ok.ensures.line c.if-whole.true c.in_ok-new-in-Head.ensures in
-    (x.0, x.1 ∙ ap (λ (t : List ℕ). Ok (x.0, t)) (sym c.requires.empty), x.2)
+pub returns-in-Body-clause-answer : goal.returns-in-Body-clause-answer
+returns-in-Body-clause-answer g c stage s =
+    body_worked g.F.Floor.at c.args.line c.in-Body.player c.line-in-Body.new.self stage c.args.text.now c.line-in-Body.new.out.items
+    c.line-in-Body.result c.line-in-Body.ensures.answer (subst (λ (p : Phase _). IsAtStage g.F.Floor.at p stage) c.in-Body.is s)
 
-pub returns-else-whole-clause-answer : goal.returns-else-whole-clause-answer
-returns-else-whole-clause-answer g c stage s =
-    let x = head_goes_on g.F.Floor.at c.args.line c.in-Head.header c.line.new.self c.in-Ok.whole stage c.args.text.now
-    (subst (λ (p : Phase _). IsAtStage g.F.Floor.at p stage) c.in-Head.is s) c.in-Ok.ensures.line c.if-whole.false in
-    (x.0, x.1 ∙ ap (λ (t : List ℕ). Ok (x.0, t)) (sym c.requires.empty), x.2)
-
-pub returns-in-Ok-line-clause-answer : goal.returns-in-Ok-line-clause-answer
-returns-in-Ok-line-clause-answer g c stage s =
-    body_goes_on g.F.Floor.at c.args.line c.in-Body.player c.in-Ok-line.player stage c.args.text.now c.line-in-Body.new.out.items
-    c.in-Ok-line.ensures.answer (subst (λ (p : Phase _). IsAtStage g.F.Floor.at p stage) c.in-Body.is s)
-
-pub returns-in-Ok-line-clause-steps : goal.returns-in-Ok-line-clause-steps
-returns-in-Ok-line-clause-steps g c stage s =
+pub returns-in-Body-clause-steps : goal.returns-in-Body-clause-steps
+returns-in-Body-clause-steps g c stage s =
     body_steps g.F.Floor.at c.args.line c.in-Body.player stage c.args.text.now c.args.steps.now c.line-in-Body.new.steps
-    c.in-Ok-line.ensures.steps (subst (λ (p : Phase _). IsAtStage g.F.Floor.at p stage) c.in-Body.is s)
-
-pub returns-in-Err-line-clause-answer : goal.returns-in-Err-line-clause-answer
-returns-in-Err-line-clause-answer g c stage s =
-    body_refused g.F.Floor.at c.args.line c.in-Body.player stage c.args.text.now c.in-Err-line.fault
-    c.in-Err-line.ensures.answer (subst (λ (p : Phase _). IsAtStage g.F.Floor.at p stage) c.in-Body.is s)
-
-pub returns-in-Err-line-clause-steps : goal.returns-in-Err-line-clause-steps
-returns-in-Err-line-clause-steps g c stage s =
-    body_steps g.F.Floor.at c.args.line c.in-Body.player stage c.args.text.now c.args.steps.now c.line-in-Body.new.steps
-    c.in-Err-line.ensures.steps (subst (λ (p : Phase _). IsAtStage g.F.Floor.at p stage) c.in-Body.is s)
+    c.line-in-Body.ensures.steps (subst (λ (p : Phase _). IsAtStage g.F.Floor.at p stage) c.in-Body.is s)

@@ -1,56 +1,68 @@
-use Rattle.std.proofs.Common.{◌≡◌, ◌<◌, ℤ, ◌++◌, ◌∙◌, subst, map, length, arith, w64, to_z, of_z, rules}
-use Rattle.std.specs.List.{AllZip, flat_map}
+use Rattle.std.proofs.Common.{◌≡◌, ◌<◌, ◌≤◌, ◌∙◌, ℕ, ℤ, List, length, sym, ap, subst, refl, arith}
 use Rattle.std.proofs.lemmas.Slice.Zip.{AllZip-long}
+use Rattle.venue_words.specs.declared.config.Config.{Config}
+use Rattle.venue_words.specs.declared.report.Report.{Report}
 use Rattle.member_gate.specs.Desks.{DeskView}
+use Rattle.line_work.specs.OneByOneLaws.{zip_all, text_all, all_desks}
+use Rattle.line_work.specs.Pulling.{PulledOne}
 use Rattle.replay_core.specs.Pulling.{pulled, pull_lines, ShowsFronts}
-use Rattle.replay_core.specs.Stages.{IsDeskOf}
-use Rattle.replay_core.proofs.OneByOne.{zip_more, text_more, zip_all, text_all, numbers_step, number_at, all_desks, read_twice}
+use Rattle.replay_core.specs.Stages.{IsDeskOfMember}
+use Rattle.replay_core.proofs.FloorWork.{shows_kept, reports_shown, fronts_kept}
+use Rattle.replay_core.proofs.Pulls.{zip_pulled, text_pulled}
 use Rattle.replay_core.proofs.pulling.pull_all.Goals as goal
 
-pub pull_desk-requires-clause-member : goal.pull_desk-requires-clause-member
-pull_desk-requires-clause-member g c =
-    let l : c.loop-number.number < length c.loop-number.desks = omega arith in
-    number_at (λ (d : DeskView). d.member) _ c.loop-number.desks c.loop-number.number _ c.loop-number.invariant.numbers l
-    (read_twice c.loop-number.desks c.loop-number.number c.index-desks-number.result c.index-desks-number.is)
+pub returns-in_err-pull_news-clause-journals : goal.returns-in_err-pull_news-clause-journals
+returns-in_err-pull_news-clause-journals g c journals s =
+    shows_kept g.F.Floor.mark g.F.Floor.at g.F.Floor.step_limit g.F.PlainFloor.state c.args.worker.now.config _ c.loop-member.floor
+    c.pull_news.new.floor c.requires c.in_err-pull_news.ensures.waited journals (c.loop-member.invariant.journals journals s)
 
-pub pull_desk-requires-clause-within : goal.pull_desk-requires-clause-within
-pull_desk-requires-clause-within g c =
-    let all = all_desks (λ (d : DeskView). d.member) 0 _ c.loop-number.desks c.loop-number.invariant.numbers in omega arith
-
-pub loop-number-preserved : goal.loop-number-preserved
-loop-number-preserved g c =
-    let l : c.loop-number.number < length c.loop-number.desks = omega arith in
-    let at = read_twice c.loop-number.desks c.loop-number.number c.index-desks-number.result c.index-desks-number.is in
+pub loop-member-preserved : goal.loop-member-preserved
+loop-member-preserved g c =
+    let reports : ℕ → List Report = λ symbol. (g.F.Floor.at c.pull_news.new.floor symbol).reports in
+    let p : PulledOne c.args.worker.now.config c.args.worker.now.moment reports c.loop-member.member c.loop-member.worker.desks
+    c.pull_news.new.self.desks c.loop-member.out.items c.pull_news.new.out.items =
+    subst (λ (m : ℤ). PulledOne c.args.worker.now.config m reports c.loop-member.member c.loop-member.worker.desks
+    c.pull_news.new.self.desks c.loop-member.out.items c.pull_news.new.out.items) c.loop-member.invariant.moment
+    (subst (λ (k : Config). PulledOne k c.loop-member.worker.moment reports c.loop-member.member c.loop-member.worker.desks
+    c.pull_news.new.self.desks c.loop-member.out.items c.pull_news.new.out.items) c.loop-member.invariant.config
+    c.in_ok-pull_news.ensures.pulled) in
+    let keeps = λ (journals : _) (s : _). shows_kept g.F.Floor.mark g.F.Floor.at g.F.Floor.step_limit g.F.PlainFloor.state c.args.worker.now.config
+    (g.F.Floor.mark c.args.floor.now) c.loop-member.floor c.pull_news.new.floor c.requires c.in_ok-pull_news.ensures.waited journals
+    (c.loop-member.invariant.journals journals s) in
+    let same = λ (journals : _) (s : _). reports_shown g.F.Floor.mark g.F.Floor.at g.F.Floor.step_limit g.F.PlainFloor.state c.args.worker.now.config
+    (g.F.Floor.mark c.args.floor.now) c.pull_news.new.floor c.requires (c.in_ok-pull_news.ensures.mark ∙ c.loop-member.invariant.mark) journals
+    (keeps journals s) in
     record {
-      desks = λ journals members s h. zip_more (IsDeskOf (length c.args.config.now.symbols))
-          (pulled c.args.config.now (to_z w64 (of_z w64 c.args.moment)) journals) c.loop-number.desks members c.loop-number.number
-          _ c.pull_desk.new.desk l at (λ m r. c.in_ok-pull_desk.ensures.desk journals m (c.loop-number.invariant.journals journals s) r)
-          (c.loop-number.invariant.desks journals members s h);
-      text = λ journals members s h. text_more (IsDeskOf (length c.args.config.now.symbols))
-          (pulled c.args.config.now (to_z w64 (of_z w64 c.args.moment)) journals)
-          (pull_lines c.args.config.now (to_z w64 (of_z w64 c.args.moment)) journals)
-          c.loop-number.desks members c.loop-number.number _ c.args.out.now.items c.loop-number.out.items c.pull_desk.new.out.items l at
-          (λ m r. c.in_ok-pull_desk.ensures.text journals m (c.loop-number.invariant.journals journals s) r)
-          (c.loop-number.invariant.desks journals members s h) (c.loop-number.invariant.text journals members s h);
-      numbers = numbers_step (λ (d : DeskView). d.member) c.loop-number.desks c.loop-number.number _ c.pull_desk.new.desk at
-          c.in_ok-pull_desk.ensures.number ∙ c.loop-number.invariant.numbers;
-      fronts = subst (ShowsFronts g.F.Floor.at c.args.config.now c.pull_desk.new.floor) c.as_slice.ensures.value c.in_ok-pull_desk.ensures.fronts;
-      mark = c.in_ok-pull_desk.ensures.mark ∙ c.loop-number.invariant.mark;
-      journals = λ journals s. c.in_ok-pull_desk.ensures.journals journals (c.loop-number.invariant.journals journals s);
+      desks = λ journals members s h. zip_pulled c.args.worker.now.config c.args.worker.now.moment journals reports c.loop-member.member
+          c.loop-member.worker.desks c.pull_news.new.self.desks c.loop-member.out.items c.pull_news.new.out.items members (same journals s) p
+          (c.loop-member.invariant.desks journals members s h);
+      text = λ journals members s h. text_pulled c.args.worker.now.config c.args.worker.now.moment journals reports c.loop-member.member
+          c.loop-member.worker.desks c.pull_news.new.self.desks c.args.out.now.items c.loop-member.out.items c.pull_news.new.out.items members
+          (same journals s) p (c.loop-member.invariant.desks journals members s h) (c.loop-member.invariant.text journals members s h);
+      config = c.in_ok-pull_news.ensures.config ∙ c.loop-member.invariant.config;
+      moment = c.in_ok-pull_news.ensures.moment ∙ c.loop-member.invariant.moment;
+      fronts = fronts_kept g.F.Floor.mark g.F.Floor.at g.F.Floor.step_limit g.F.PlainFloor.state c.args.worker.now.config
+          (g.F.Floor.mark c.args.floor.now) c.loop-member.floor c.pull_news.new.floor c.note_fronts.new.fronts.items c.requires
+          c.loop-member.invariant.mark (c.in_ok-pull_news.ensures.mark ∙ c.loop-member.invariant.mark) c.in_ok-pull_news.ensures.waited
+          c.loop-member.invariant.fronts;
+      mark = c.in_ok-pull_news.ensures.mark ∙ c.loop-member.invariant.mark;
+      journals = λ journals s. keeps journals s;
     }
 
 pub returns-clause-desks : goal.returns-clause-desks
 returns-clause-desks g c journals members s h =
-    let e : to_z w64 (of_z w64 c.args.moment) ≡ c.args.moment = search rules in
-    let long = AllZip-long (IsDeskOf (length c.args.config.now.symbols)) c.args.desks.now members h in
-    subst (λ (m : ℤ). AllZip (IsDeskOf (length c.args.config.now.symbols)) c.loop-number.desks (map (pulled c.args.config.now m journals) members)) e
-    (zip_all (IsDeskOf (length c.args.config.now.symbols)) (pulled c.args.config.now (to_z w64 (of_z w64 c.args.moment)) journals)
-    c.loop-number.desks members c.loop-number.number (omega arith) (c.loop-number.invariant.desks journals members s h))
+    let long = AllZip-long (IsDeskOfMember (length c.args.worker.now.config.symbols)) c.args.worker.now.desks members h in
+    let all = all_desks (λ (d : DeskView). d.member) 0 _ c.args.worker.now.desks c.config.ensures.desks in
+    let count : length c.config-2.result.now.members ≡ length c.args.worker.now.config.members =
+    ap (λ (k : Config). length k.members) c.config-2.ensures.same in
+    zip_all (IsDeskOfMember (length c.args.worker.now.config.symbols)) (pulled c.args.worker.now.config c.args.worker.now.moment journals)
+    c.loop-member.worker.desks members c.loop-member.member (omega (arith, long, all, count)) (c.loop-member.invariant.desks journals members s h)
 
 pub returns-clause-text : goal.returns-clause-text
 returns-clause-text g c journals members s h =
-    let e : to_z w64 (of_z w64 c.args.moment) ≡ c.args.moment = search rules in
-    let long = AllZip-long (IsDeskOf (length c.args.config.now.symbols)) c.args.desks.now members h in
-    subst (λ (m : ℤ). c.loop-number.out.items ≡ c.args.out.now.items ++ flat_map (pull_lines c.args.config.now m journals) members) e
-    (text_all (pull_lines c.args.config.now (to_z w64 (of_z w64 c.args.moment)) journals) members c.loop-number.number
-    c.args.out.now.items c.loop-number.out.items (omega arith) (c.loop-number.invariant.text journals members s h))
+    let long = AllZip-long (IsDeskOfMember (length c.args.worker.now.config.symbols)) c.args.worker.now.desks members h in
+    let all = all_desks (λ (d : DeskView). d.member) 0 _ c.args.worker.now.desks c.config.ensures.desks in
+    let count : length c.config-2.result.now.members ≡ length c.args.worker.now.config.members =
+    ap (λ (k : Config). length k.members) c.config-2.ensures.same in
+    text_all (pull_lines c.args.worker.now.config c.args.worker.now.moment journals) members c.loop-member.member c.args.out.now.items
+    c.loop-member.out.items (omega (arith, long, all, count)) (c.loop-member.invariant.text journals members s h)

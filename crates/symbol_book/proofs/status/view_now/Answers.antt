@@ -3,7 +3,7 @@ use Rattle.std.specs.Prelude.{Option, option_map}
 use Rattle.venue_words.specs.declared.row.Priced.{Priced}
 use Rattle.venue_words.specs.Price.{price_shown}
 use Rattle.eager_meaning.specs.declared.order.Order.{Order}
-use Rattle.eager_meaning.specs.Showing.{view_of, row_of_order}
+use Rattle.eager_meaning.specs.Showing.{live_at, view_with, row_of_order}
 use Rattle.symbol_book.specs.Finding.{IsLiveRow}
 use Rattle.symbol_book.proofs.LiveRows.{get_at, live_rests, none_rests}
 use Rattle.symbol_book.proofs.status.view_now.Goals as goal
@@ -21,8 +21,8 @@ priced-price-requires g c =
     (subst (IsLiveRow c.args.orders.now c.args.entered.now c.args.number) c.in-Some.is c.live_row.ensures) in
     record { rests = r.2.rests }
 
-pub view_with_row-requires : goal.view_with_row-requires
-view_with_row-requires g c =
+pub view_at-requires : goal.view_at-requires
+view_at-requires g c =
     c.requires.name c.index-orders-number.result (get_at c.args.orders.now c.args.number c.index-orders-number.result c.requires.here c.index-orders-number.is)
 
 pub returns-in-Some-clause-view : goal.returns-in-Some-clause-view
@@ -33,11 +33,10 @@ returns-in-Some-clause-view g c = λ order at.
     let same : c.index-orders-number.result ≡ order = some_order _ _ (sym here ∙ at) in
     let shown : (price_shown r.0, r.0.time) ≡ c.priced-price.result =
     some_pair _ _ (sym (ap (λ (o : Option Priced). option_map (λ (x : Priced). (price_shown x, x.time)) o) r.1) ∙ (ap (λ (k : ℕ). option_map (λ (x : Priced). (price_shown x, x.time)) (row_of_order k (g.E.Engine.buys c.args.engine.now ++ g.E.Engine.sells c.args.engine.now))) (sym r.2.order) ∙ c.priced-price.ensures.shown)) in
-    let view = c.view_with_row.ensures r.0 (ap (λ (p : Option ℕ × ℕ). p.0) shown) (ap (λ (p : Option ℕ × ℕ). p.1) shown) in
+    let view = c.view_at.ensures ∙ ap (λ (p : Option ℕ × ℕ). view_with c.index-orders-number.result (live_at c.index-orders-number.result p.0 p.1)) (sym shown) in
     rw (r.1, ← same) view
 
 pub returns-in-None-clause-view : goal.returns-in-None-clause-view
-unfolding view_of
 returns-in-None-clause-view g c = λ order at.
     let here = get_at c.args.orders.now c.args.number c.index-orders-number.result c.requires.here c.index-orders-number.is in
     let same : c.index-orders-number.result ≡ order = some_order _ _ (sym here ∙ at) in

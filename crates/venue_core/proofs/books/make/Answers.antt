@@ -1,18 +1,23 @@
--- The gates have the settings of the books.
+-- The gates have the settings of the books, and so of the config.
 use Rattle.std.proofs.Common.{◌≡◌, List, map, length, ◌∙◌}
-use Rattle.symbol_book.specs.Book.{BookView}
-use Rattle.symbol_book.specs.Setting.{setting_of}
-use Rattle.turn_gate.specs.Seats.{GateId}
-use Rattle.venue_core.specs.Venues.{VenueId}
-use Rattle.turn_gate.specs.Seats.{SeatState}
-use Rattle.venue_core.proofs.Answered.{map_ok}
+use Rattle.venue_words.specs.Floors.{setup_of}
+use Rattle.symbol_book.specs.Setting.{book_setting}
+use Rattle.turn_gate.specs.Seats.{GateId, SeatState}
+use Rattle.venue_core.specs.ConfigVenues.{IsVenueOf}
+use Rattle.venue_core.specs.ConfigVenueLaws.{seats_of_config}
+use Rattle.venue_core.specs.Marks.{mark_of}
+use Rattle.venue_core.specs.Venues.{VenueId, AreSeatsOf, setup_in}
+use Rattle.venue_core.proofs.Answered.{ok_both}
 use Rattle.venue_core.proofs.NewBooks.{settings_of}
 use Rattle.venue_core.proofs.books.make.Goals as goal
 
-pub returns-clause-settings : goal.returns-clause-settings
-returns-clause-settings c =
+pub returns-clause-of_config : goal.returns-clause-of_config
+returns-clause-of_config c =
+    let config = c.args.config.now in
     let made = c.in_ok-books.ensures in
-    let e = settings_of (length c.args.config.now.markets) c.in_ok-books.books.items c.args.config.now.ticks made.ticks made.books in
-    map_ok c.from_books.result (λ (made : VenueId × List SeatState). map (λ (gate : GateId). gate.setting) made.0.gates ≡ map (λ (book : BookView). setting_of book.markets book.tick) c.in_ok-books.books.items)
-    (λ (made : VenueId × List SeatState). map (λ (gate : GateId). gate.setting) made.0.gates ≡ map (setting_of (length c.args.config.now.markets)) c.args.config.now.ticks)
-    (λ made so. so ∙ e) c.from_books.ensures.settings
+    let settings = settings_of (length config.markets) c.in_ok-books.books.items config.ticks made.ticks made.books in
+    ok_both c.from_books.result (λ (made : VenueId × List SeatState). setup_in made.0 ≡ setup_of config)
+    (λ (made : VenueId × List SeatState). map (λ (gate : GateId). gate.setting) made.0.gates ≡ map book_setting c.in_ok-books.books.items)
+    (λ (made : VenueId × List SeatState). (seats : List SeatState) → AreSeatsOf made.0 seats → IsVenueOf config (mark_of made.0 seats))
+    (λ made setup so. λ seats are. seats_of_config config made.0 seats c.requires setup (so ∙ settings) are)
+    c.from_books.ensures.setup c.from_books.ensures.settings

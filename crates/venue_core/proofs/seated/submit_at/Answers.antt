@@ -18,7 +18,7 @@ returns g c =
     let at = seat_and_gate c.args.venue.now.gates c.venue.inside.gates.items c.args.seats.now c.seats.inside.list.items c.args.symbol seat c.index-gate.result.now
     (ap (λ (v : VenueId). v.gates) c.venue.view_is) c.seats.view_is c.requires.seats c.requires.symbol c.index_mut-seat.ensures.value c.index-gate.ensures in
     let its : c.index-gate.result.now ≡ seat.gate = sym at.1 in
-    subst (λ (z : ℤ). Submits g.V.Held.step_limit c.args.seats.now (set c.seats.inside.list.items c.args.symbol passed) c.args.symbol c.submit.result c.args.feed z c.args.command c.args.steps.now c.submit.new.steps)
+    subst (λ (z : ℤ). Submits g.V.Held.step_limit c.args.seats.now (set c.seats.inside.list.items c.args.symbol passed) c.args.symbol c.submit.result c.args.feed z c.args.command.now c.args.steps.now c.submit.new.steps)
     (to_z-of_z w64 c.args.moment c.ranges.moment)
     (record {
       old = seat;
@@ -28,9 +28,9 @@ returns g c =
       number = e.number;
       mine = e.mine;
       room = subst (λ (q : GateId). IfOk c.submit.result (λ n. n ≤ q.limit)) its e.room;
-      steps = subst (λ (q : GateId). IfOk c.submit.result (λ n. CostsAtMost (g.V.Held.step_limit q.setting) passed.seen (event n c.args.feed (to_z w64 (of_z w64 c.args.moment)) c.args.command) c.args.steps.now c.submit.new.steps)) its e.steps;
+      steps = subst (λ (q : GateId). IfOk c.submit.result (λ n. CostsAtMost (g.V.Held.step_limit q.setting) passed.seen (event n c.args.feed (to_z w64 (of_z w64 c.args.moment)) c.args.command.now) c.args.steps.now c.submit.new.steps)) its e.steps;
       seen = e.seen;
       none_mine = e.none_mine;
       full = subst (λ (q : GateId). IfErr c.submit.result (IfFull (λ found. (found ≡ length passed.seen) × (found ≡ q.limit)))) its e.full;
-      idle = subst (λ (q : GateId). OnErr c.submit.result (CostsNothing (g.V.Held.step_limit q.setting) passed.seen (event (length passed.seen + 1) c.args.feed (to_z w64 (of_z w64 c.args.moment)) c.args.command) c.args.steps.now c.submit.new.steps)) its e.idle;
+      idle = subst (λ (q : GateId). OnErr c.submit.result (CostsNothing (g.V.Held.step_limit q.setting) passed.seen (event (length passed.seen + 1) c.args.feed (to_z w64 (of_z w64 c.args.moment)) c.args.command.now) c.args.steps.now c.submit.new.steps)) its e.idle;
     })

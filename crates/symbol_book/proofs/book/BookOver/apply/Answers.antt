@@ -2,7 +2,7 @@ use Rattle.std.proofs.Common.{◌≡◌, ◌+◌, ◌<◌, ◌∙◌, Some, true
 use Rattle.symbol_book.specs.Book.{BookView}
 use Rattle.symbol_book.specs.Commands.{takes_command, key_for}
 use Rattle.symbol_book.proofs.Fits.{can_work}
-use Rattle.symbol_book.proofs.Keeping.{kept_next, keeps_orders, few_orders}
+use Rattle.symbol_book.proofs.Keeping.{kept_next, keeps_orders, few_orders, reports_next}
 use Rattle.symbol_book.proofs.book.BookOver.apply.Goals as goal
 
 pub work-requires-clause-fits : goal.work-requires-clause-fits
@@ -84,3 +84,8 @@ invariant_of-self g c =
 
 pub returns-clause-most : goal.returns-clause-most
 returns-clause-most g c = rw (← c.self.view_is, c.self.invariant.0.state) c.work.ensures.most
+
+pub returns-clause-reports : goal.returns-clause-reports
+returns-clause-reports g c =
+    let kept = c.self.invariant.0 in
+    rw (← c.self.view_is) (sym (reports_next _ _ _ _ _ _ _ _ kept.state kept.reports c.work.ensures.worked.reports))

@@ -20,7 +20,7 @@ returns-clause-reports g c =
 
 pub returns-clause-records : goal.returns-clause-records
 returns-clause-records g c =
-    let s = subst (λ (z : ℤ). SubmitsTo g.V.Held.journal g.V.Held.limit g.V.Held.setting g.V.Held.step_limit c.self.inside.books.items c.submit_to.new.books.items c.args.symbol c.submit_to.result c.args.feed z c.args.command c.args.steps.now c.submit_to.new.steps) (to_z-of_z w64 c.args.moment c.ranges.moment) c.submit_to.ensures in
+    let s = subst (λ (z : ℤ). SubmitsTo g.V.Held.journal g.V.Held.limit g.V.Held.setting g.V.Held.step_limit c.self.inside.books.items c.submit_to.new.books.items c.args.symbol c.submit_to.result c.args.feed z c.args.command.now c.args.steps.now c.submit_to.new.steps) (to_z-of_z w64 c.args.moment c.ranges.moment) c.submit_to.ensures in
     floor_records g.V.Held.journal g.V.Held.limit g.V.Held.setting g.V.Held.step_limit g.V.Held.reports c.self.inside.members c.self.inside.markets c.self.inside.ticks.items _ _ _ _ _ _ _ _ _ s c.args.self.now c.self.view_is
 
 pub returns-clause-room : goal.returns-clause-room
@@ -37,12 +37,12 @@ returns-clause-full g c =
 
 pub returns-clause-steps : goal.returns-clause-steps
 returns-clause-steps g c =
-    let s = subst (λ (z : ℤ). SubmitsTo g.V.Held.journal g.V.Held.limit g.V.Held.setting g.V.Held.step_limit c.self.inside.books.items c.submit_to.new.books.items c.args.symbol c.submit_to.result c.args.feed z c.args.command c.args.steps.now c.submit_to.new.steps) (to_z-of_z w64 c.args.moment c.ranges.moment) c.submit_to.ensures in
+    let s = subst (λ (z : ℤ). SubmitsTo g.V.Held.journal g.V.Held.limit g.V.Held.setting g.V.Held.step_limit c.self.inside.books.items c.submit_to.new.books.items c.args.symbol c.submit_to.result c.args.feed z c.args.command.now c.args.steps.now c.submit_to.new.steps) (to_z-of_z w64 c.args.moment c.ranges.moment) c.submit_to.ensures in
     floor_steps g.V.Held.journal g.V.Held.limit g.V.Held.setting g.V.Held.step_limit g.V.Held.reports c.self.inside.members c.self.inside.markets c.self.inside.ticks.items _ _ _ _ _ _ _ _ _ s c.args.self.now c.self.view_is
 
 pub returns-clause-idle : goal.returns-clause-idle
 returns-clause-idle g c =
-    let s = subst (λ (z : ℤ). SubmitsTo g.V.Held.journal g.V.Held.limit g.V.Held.setting g.V.Held.step_limit c.self.inside.books.items c.submit_to.new.books.items c.args.symbol c.submit_to.result c.args.feed z c.args.command c.args.steps.now c.submit_to.new.steps) (to_z-of_z w64 c.args.moment c.ranges.moment) c.submit_to.ensures in
+    let s = subst (λ (z : ℤ). SubmitsTo g.V.Held.journal g.V.Held.limit g.V.Held.setting g.V.Held.step_limit c.self.inside.books.items c.submit_to.new.books.items c.args.symbol c.submit_to.result c.args.feed z c.args.command.now c.args.steps.now c.submit_to.new.steps) (to_z-of_z w64 c.args.moment c.ranges.moment) c.submit_to.ensures in
     floor_idle g.V.Held.journal g.V.Held.limit g.V.Held.setting g.V.Held.step_limit g.V.Held.reports c.self.inside.members c.self.inside.markets c.self.inside.ticks.items _ _ _ _ _ _ _ _ _ s c.args.self.now c.self.view_is
 
 pub returns-clause-kept : goal.returns-clause-kept

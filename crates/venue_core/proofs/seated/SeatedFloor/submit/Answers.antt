@@ -26,7 +26,7 @@ returns-clause-reports g c = let s = c.submit_at.ensures in
 
 pub returns-clause-records : goal.returns-clause-records
 returns-clause-records g c =
-    let s = subst (λ (z : ℤ). Submits g.V.Held.step_limit c.args.self.now.seats c.submit_at.new.seats c.args.symbol c.submit_at.result c.args.feed z c.args.command c.args.steps.now c.submit_at.new.steps) (to_z-of_z w64 c.args.moment c.ranges.moment) c.submit_at.ensures in
+    let s = subst (λ (z : ℤ). Submits g.V.Held.step_limit c.args.self.now.seats c.submit_at.new.seats c.args.symbol c.submit_at.result c.args.feed z c.args.command.now c.args.steps.now c.submit_at.new.steps) (to_z-of_z w64 c.args.moment c.ranges.moment) c.submit_at.ensures in
     submit_records c.args.self.now.venue.now _ _ _ _ _ _ _ _ _ _ s g.V.Held.reports
 
 pub returns-clause-room : goal.returns-clause-room
@@ -46,10 +46,10 @@ returns-clause-full g c = submit_full c.args.self.now.venue.now _ _ _ _ _ _ _ _ 
 
 pub returns-clause-steps : goal.returns-clause-steps
 returns-clause-steps g c =
-    let s = subst (λ (z : ℤ). Submits g.V.Held.step_limit c.args.self.now.seats c.submit_at.new.seats c.args.symbol c.submit_at.result c.args.feed z c.args.command c.args.steps.now c.submit_at.new.steps) (to_z-of_z w64 c.args.moment c.ranges.moment) c.submit_at.ensures in
+    let s = subst (λ (z : ℤ). Submits g.V.Held.step_limit c.args.self.now.seats c.submit_at.new.seats c.args.symbol c.submit_at.result c.args.feed z c.args.command.now c.args.steps.now c.submit_at.new.steps) (to_z-of_z w64 c.args.moment c.ranges.moment) c.submit_at.ensures in
     submit_steps c.args.self.now.venue.now _ _ _ _ _ _ _ _ _ _ s g.V.Held.reports
 
 pub returns-clause-idle : goal.returns-clause-idle
 returns-clause-idle g c =
-    let s = subst (λ (z : ℤ). Submits g.V.Held.step_limit c.args.self.now.seats c.submit_at.new.seats c.args.symbol c.submit_at.result c.args.feed z c.args.command c.args.steps.now c.submit_at.new.steps) (to_z-of_z w64 c.args.moment c.ranges.moment) c.submit_at.ensures in
+    let s = subst (λ (z : ℤ). Submits g.V.Held.step_limit c.args.self.now.seats c.submit_at.new.seats c.args.symbol c.submit_at.result c.args.feed z c.args.command.now c.args.steps.now c.submit_at.new.steps) (to_z-of_z w64 c.args.moment c.ranges.moment) c.submit_at.ensures in
     submit_idle c.args.self.now.venue.now _ _ _ _ _ _ _ _ _ _ s g.V.Held.reports

@@ -15,7 +15,7 @@ returns-clause-reports g c =
     let journal = c.push_reserved-2.new.self.items in
     let first : c.args.symbol ≡ 0 = omega arith in
     let number : ℕ = c.in-Ok.found + 1 in
-    let one : Event = event number c.args.feed (to_z w64 (of_z w64 c.args.moment)) c.args.command in
+    let one : Event = event number c.args.feed (to_z w64 (of_z w64 c.args.moment)) c.in-Ok-copy_of.command in
     let more : journal ≡ floor.journal.items ++ one ∷ [] = c.push_reserved-2.ensures.items ∙ ap (λ (es : List Event). es ++ one ∷ []) c.reserve-2.ensures.items in
     subst (λ (s : ℕ). StartsWith (view_at config journal c.push_reserved.new.self.items s).reports (view_at config floor.journal.items floor.own.items s).reports) (sym first)
     (subst (λ (es : List Event). StartsWith (runs (length config.markets) (slice_index config.ticks 0) es).reports (runs (length config.markets) (slice_index config.ticks 0) floor.journal.items).reports) (sym more)

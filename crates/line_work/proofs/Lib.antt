@@ -1,0 +1,7 @@
+pub mod DeskWork
+pub mod Fresh
+pub mod Kept
+pub mod LineReads
+pub mod Quiet
+pub mod Stops
+pub mod Submitted

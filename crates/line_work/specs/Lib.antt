@@ -1,0 +1,13 @@
+pub mod Alike
+pub mod AlikeLaws
+pub mod Commands
+pub mod FeedState
+pub mod LineWork
+pub mod LineWorkLaws
+pub mod Listings
+pub mod OneByOneLaws
+pub mod Output
+pub mod OverLaws
+pub mod Pulling
+pub mod Refusing
+pub mod Standing

@@ -1,0 +1,3 @@
+-- Lemmas on sides that tests fill.
+mod Alone
+mod Later

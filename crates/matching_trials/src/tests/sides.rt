@@ -1,0 +1,430 @@
+//! Both sides answer the same calls alike, and worked examples on both.
+ghost use Rattle.std.specs.Prelude.{◌≡◌, ◌+◌, ◌<◌, ◌^◌, negsuc, pos, ◌≤ℤ◌, length, IfOk, OnOk};
+ghost use Rattle.limit_tree.specs.Part.{IsLeaf};
+ghost use Rattle.venue_words.specs.Conditions.{IsKey, IsRow, IsTick};
+ghost use Rattle.peg_groups.specs.Side.{IsLaterThan, first_state};
+
+use limit_tree::{Node, fill, leaf};
+use peg_groups::{FlatSide, GroupSide, SideBook};
+use std::alloc::Global;
+use std::marker::Brand;
+use std::process::Abort;
+use std::sync::ledger::{Blank, Ledger};
+use std::test::Fail;
+use venue_words::{Best, Key, Method, NoMemory, PRICE_END, Reference, Rounding, Row, Side, Steps};
+
+/// Numbers that look random and are the same in each run.
+#[derive(Drop)]
+struct Random(u64);
+
+impl Random {
+    fn below(&mut self, end: u32) -> u32
+        requires { 0 < end }
+        ensures { result < end }
+    {
+        self.0 = self
+            .0
+            .wrapping_mul(6_364_136_223_846_793_005)
+            .wrapping_add(1_442_695_040_888_963_407);
+        u32::try_from(self.0 >> 33).unwrap_or(0) % end
+    }
+}
+
+/// What happens to a side at an event.
+#[derive(Clone, Copy, Debug)]
+enum Act {
+    /// A quote of a bid and an offer in cents.
+    Quote(Option<u32>, Option<u32>),
+    /// A row of a key with this number enters, with a limit.
+    Put(u32, u32),
+    /// Nothing.
+    Wait,
+}
+
+/// What was found.
+#[derive(Clone, Copy, Debug, PartialEq, Eq)]
+struct Answer {
+    found: Option<(u32, u32)>,
+    value: Option<u32>,
+    time: u32,
+    rows: usize,
+    keys: usize,
+}
+
+fn key(reference: Reference, offset: i32, rounding: Rounding, grid: u32) -> Key
+    requires offset { (negsuc 199 ≤ℤ offset) × (offset ≤ℤ pos 200) }
+    requires grid { IsTick grid }
+    ensures { IsKey result }
+{
+    Key {
+        side: Side::Buy,
+        reference,
+        offset,
+        rounding,
+        grid,
+    }
+}
+
+/// One of some keys of buys.
+fn key_of(number: u32) -> Key
+    ensures { IsKey result }
+{
+    match number % 7 {
+        0 => key(Reference::Mid, 0, Rounding::Unrounded, 2),
+        1 => key(Reference::Primary, 0, Rounding::Unrounded, 2),
+        2 => key(Reference::Limit, 0, Rounding::Unrounded, 2),
+        3 => key(Reference::Primary, 4, Rounding::Unrounded, 2),
+        4 => key(Reference::Market, -6, Rounding::Unrounded, 2),
+        5 => key(Reference::Mid, 1, Rounding::Aggressive, 10),
+        _ => key(Reference::Primary, -3, Rounding::Passive, 10),
+    }
+}
+
+fn row(number: u32, cap: u32, entry: u32) -> Row
+    ensures row { IsRow result }
+    ensures entry { result.entry ≡ entry }
+{
+    Row {
+        order: entry,
+        member: 0,
+        key: key_of(number),
+        cap: cap.clamp(1, PRICE_END),
+        entry,
+        leaves: 100,
+        minimum: 0,
+        method: Method::Once,
+        traded: false,
+    }
+}
+
+fn boxed(alloc: Global, row: Row) -> Result<Box<Node>, NoMemory>
+    ensures { IfOk result (λ node. IsLeaf node.value × (node.value.row ≡ row)) }
+{
+    match Box::new(alloc, leaf(row)) {
+        Ok(node) => Ok(node),
+        Err(_) => Err(NoMemory),
+    }
+}
+
+/// Does what happens at an event.
+fn perform<S: SideBook, L: Ledger>(
+    side: &mut S,
+    alloc: Global,
+    event: u32,
+    act: Act,
+    steps: &mut Steps<L>,
+) -> Result<(), NoMemory>
+    requires { IsLaterThan (S.state side.old) event }
+    ensures { OnOk result (IsLaterThan (S.state side.new) (event + 1)) }
+{
+    match act {
+        Act::Quote(bid, offer) => {
+            side.reserve(None)?;
+            side.reprice(event, Best { bid, offer }, steps);
+        }
+        Act::Put(number, cap) => {
+            let row = row(number, cap, event);
+            let node = boxed(alloc, row)?;
+            side.reserve(Some(row.key))?;
+            side.put(node, steps);
+        }
+        Act::Wait => {}
+    }
+    Ok(())
+}
+
+/// Does what happens at the events from 1 on.
+fn perform_all<S: SideBook, L: Ledger>(
+    side: &mut S,
+    alloc: Global,
+    acts: &[Act],
+    steps: &mut Steps<L>,
+) -> Result<(), NoMemory>
+    requires first { S.state side.old ≡ first_state }
+    requires few { length acts.now < 2 ^ 31 }
+{
+    let mut event = 1;
+    for act in acts {
+        perform(side, alloc, event, *act, steps)?;
+        event += 1;
+    }
+    Ok(())
+}
+
+/// The first row is taken out, and what is left of it comes back behind a second one that leaves.
+fn trade<S: SideBook, L: Ledger>(
+    side: &mut S,
+    event: u32,
+    shares: u32,
+    steps: &mut Steps<L>,
+) -> Option<(u32, u32)>
+    requires { IsLaterThan (S.state side.old) event }
+    ensures { IsLaterThan (S.state side.new) event }
+{
+    let Some(mut taken) = side.take_best(steps) else {
+        return None;
+    };
+    let next = side.take_best(steps);
+    let shares = shares.min(taken.node.row.leaves);
+    fill(&mut taken.node, shares);
+    let found = (taken.node.entry, taken.node.row.leaves);
+    side.put_back(taken, steps);
+    match next {
+        None => Some(found),
+        Some(other) => Some((found.0, other.node.entry)),
+    }
+}
+
+/// What happens at an event of the long run.
+fn act_of(event: u32) -> Act {
+    let mut random = Random(u64::from(event));
+    let _ = random.below(2);
+    match random.below(4) {
+        0 => {
+            if random.below(5) == 0 {
+                return Act::Quote(None, None);
+            }
+            let bid = 990 + random.below(20);
+            Act::Quote(Some(bid), Some(bid + random.below(4)))
+        }
+        _ => {
+            let cap = 1960 + random.below(80);
+            let cap = if random.below(2) == 0 { cap } else { PRICE_END };
+            Act::Put(random.below(7), cap)
+        }
+    }
+}
+
+/// The row of an event of the long run leaves.
+fn leave<S: SideBook, L: Ledger>(
+    side: &mut S,
+    entry: u32,
+    event: u32,
+    steps: &mut Steps<L>,
+) -> Option<(u32, u32)>
+    requires { IsLaterThan (S.state side.old) event }
+    ensures { IsLaterThan (S.state side.new) event }
+{
+    match act_of(entry) {
+        Act::Put(number, cap) => {
+            let row = row(number, cap, entry);
+            let node = side.cut(row.key, row.cap, entry, steps);
+            node.map(|node| (node.entry, node.row.leaves))
+        }
+        _ => None,
+    }
+}
+
+/// The value and the time of the row of an event of the long run, and the sizes of the side.
+fn seen<S: SideBook, L: Ledger>(
+    side: &S,
+    entry: u32,
+    found: Option<(u32, u32)>,
+    steps: &mut Steps<L>,
+) -> Answer {
+    let priced = match act_of(entry) {
+        Act::Put(number, cap) => {
+            let row = row(number, cap, entry);
+            side.priced(row.key, row.cap, entry, steps)
+        }
+        _ => None,
+    };
+    let (value, time) = priced.unwrap_or((None, 0));
+    Answer {
+        found,
+        value,
+        time,
+        rows: side.len(),
+        keys: side.groups(),
+    }
+}
+
+/// One event of the long run.
+fn turn<S: SideBook, L: Ledger>(
+    side: &mut S,
+    alloc: Global,
+    event: u32,
+    random: &mut Random,
+    steps: &mut Steps<L>,
+) -> Result<Answer, NoMemory>
+    requires later { IsLaterThan (S.state side.old) event }
+    requires few { (0 < event) × (event < 2 ^ 31) }
+    ensures { OnOk result (IsLaterThan (S.state side.new) (event + 1)) }
+{
+    perform(side, alloc, event, act_of(event), steps)?;
+    let found = match random.below(5) {
+        0 => trade(side, event + 1, random.below(120), steps),
+        1 => leave(side, 1 + random.below(event), event + 1, steps),
+        2 => {
+            side.tidy(steps);
+            None
+        }
+        _ => None,
+    };
+    Ok(seen(side, 1 + random.below(event), found, steps))
+}
+
+fn long_run<S: SideBook, L: Ledger>(
+    side: &mut S,
+    alloc: Global,
+    steps: &mut Steps<L>,
+) -> Result<Vec<Answer>, NoMemory>
+    requires { S.state side.old ≡ first_state }
+{
+    let mut random = Random(29);
+    let mut answers = Vec::new(alloc);
+    for event in 1..1500 {
+        let answer = turn(side, alloc, event, &mut random, steps)?;
+        answers.push(answer)?;
+    }
+    Ok(answers)
+}
+
+fn compare_sides<L: Ledger>(
+    rt: &impl Abort,
+    alloc: Global,
+    steps: &mut Steps<L>,
+) -> Result<(), NoMemory> {
+    let mut groups = GroupSide::new(alloc);
+    let mut flat = FlatSide::new(alloc);
+    let by_groups = long_run(&mut groups, alloc, steps)?;
+    let by_places = long_run(&mut flat, alloc, steps)?;
+    assert_eq!(rt; by_groups.len(), by_places.len());
+    for (number, (answer, other)) in by_groups.iter().zip(by_places.iter()).enumerate() {
+        assert_eq!(rt; answer, other, "at {number}");
+    }
+    assert!(rt; groups.len() > 100 && groups.groups() > 5);
+    Ok(())
+}
+
+/// The value and time of the row of a key, a limit and an entry, on both sides.
+fn held<L: Ledger>(
+    rt: &impl Abort,
+    alloc: Global,
+    acts: &[Act],
+    row: Row,
+    want: (u32, u32),
+    steps: &mut Steps<L>,
+) -> Result<(), NoMemory>
+    requires { length acts.now < 2 ^ 31 }
+{
+    let mut groups = GroupSide::new(alloc);
+    perform_all(&mut groups, alloc, acts, steps)?;
+    let found = groups.priced(row.key, row.cap, row.entry, steps);
+    assert_eq!(rt; found, Some((Some(want.0), want.1)));
+    let mut flat = FlatSide::new(alloc);
+    perform_all(&mut flat, alloc, acts, steps)?;
+    let found = flat.priced(row.key, row.cap, row.entry, steps);
+    assert_eq!(rt; found, Some((Some(want.0), want.1)));
+    Ok(())
+}
+
+fn take<S: SideBook, L: Ledger>(side: &mut S, steps: &mut Steps<L>) -> Option<u32> {
+    side.take_best(steps).map(|taken| taken.node.entry)
+}
+
+/// The entries of the first rows, on both sides.
+fn order<L: Ledger>(
+    rt: &impl Abort,
+    alloc: Global,
+    acts: &[Act],
+    want: [Option<u32>; 4],
+    steps: &mut Steps<L>,
+) -> Result<(), NoMemory>
+    requires { length acts.now < 2 ^ 31 }
+{
+    let mut groups = GroupSide::new(alloc);
+    perform_all(&mut groups, alloc, acts, steps)?;
+    let mut flat = FlatSide::new(alloc);
+    perform_all(&mut flat, alloc, acts, steps)?;
+    for entry in want {
+        assert_eq!(rt; take(&mut groups, steps), entry);
+        assert_eq!(rt; take(&mut flat, steps), entry);
+    }
+    Ok(())
+}
+
+fn worked_examples<L: Ledger>(
+    rt: &impl Abort,
+    alloc: Global,
+    steps: &mut Steps<L>,
+) -> Result<(), NoMemory> {
+    // A price that goes away and comes back loses its time.
+    let away = [
+        Act::Quote(Some(1000), Some(1002)),
+        Act::Put(1, PRICE_END),
+        Act::Put(2, 2000),
+        Act::Quote(Some(999), Some(1002)),
+        Act::Quote(Some(1000), Some(1002)),
+    ];
+    held(rt, alloc, &away, row(1, PRICE_END, 2), (2000, 5), steps)?;
+    held(rt, alloc, &away, row(2, 2000, 3), (2000, 3), steps)?;
+    order(rt, alloc, &away, [Some(3), Some(2), None, None], steps)?;
+
+    // A quote that leaves a row at its limit leaves its time; a dip below the limit does not.
+    let dip = [
+        Act::Quote(Some(1000), Some(1002)),
+        Act::Put(0, 2000),
+        Act::Quote(Some(1001), Some(1003)),
+        Act::Wait,
+        Act::Quote(Some(999), Some(1000)),
+        Act::Wait,
+        Act::Quote(Some(1000), Some(1002)),
+    ];
+    held(rt, alloc, &dip[..4], row(0, 2000, 2), (2000, 2), steps)?;
+    held(rt, alloc, &dip[..6], row(0, 2000, 2), (1999, 5), steps)?;
+    held(rt, alloc, &dip, row(0, 2000, 2), (2000, 7), steps)?;
+
+    // No quote makes each row inactive, and the next one gives each a new time.
+    let outage = [
+        Act::Quote(Some(999), Some(1001)),
+        Act::Put(0, 2000),
+        Act::Quote(None, None),
+        Act::Quote(Some(999), Some(1001)),
+    ];
+    order(rt, alloc, &outage[..3], [None, None, None, None], steps)?;
+    held(rt, alloc, &outage, row(0, 2000, 2), (2000, 4), steps)?;
+
+    // Equal prices and times over three keys go by entry.
+    let tie = [
+        Act::Quote(Some(996), Some(1000)),
+        Act::Put(0, 1800),
+        Act::Put(3, PRICE_END),
+        Act::Put(2, 2004),
+        Act::Put(0, PRICE_END),
+        Act::Quote(Some(1000), Some(1004)),
+    ];
+    held(rt, alloc, &tie, row(3, PRICE_END, 3), (2004, 6), steps)?;
+    held(rt, alloc, &tie, row(2, 2004, 4), (2004, 6), steps)?;
+    order(rt, alloc, &tie, [Some(3), Some(4), Some(5), Some(2)], steps)
+}
+
+fn count_sides<L: Ledger>(rt: &impl Abort, alloc: Global, blank: Blank) -> Result<(), NoMemory>
+    requires name { blank.name ≡ L.name }
+    requires parts { blank.parts ≡ L.parts }
+    requires one { blank.parts ≡ 1 }
+{
+    let mut steps = Steps::<L>::start(blank);
+    compare_sides(rt, alloc, &mut steps)
+}
+
+fn count_examples<L: Ledger>(rt: &impl Abort, alloc: Global, blank: Blank) -> Result<(), NoMemory>
+    requires name { blank.name ≡ L.name }
+    requires parts { blank.parts ≡ L.parts }
+    requires one { blank.parts ≡ 1 }
+{
+    let mut steps = Steps::<L>::start(blank);
+    worked_examples(rt, alloc, &mut steps)
+}
+
+#[test]
+fn both_sides_answer_the_same_calls_alike(rt: HostRuntime) -> Result<(), Fail> {
+    count_sides::<Brand>(&rt, rt.alloc(), Blank::new(1))?;
+    Ok(())
+}
+
+#[test]
+fn times_change_where_prices_do(rt: HostRuntime) -> Result<(), Fail> {
+    count_examples::<Brand>(&rt, rt.alloc(), Blank::new(1))?;
+    Ok(())
+}

@@ -1,0 +1,67 @@
+use Rattle.std.proofs.Common.{◌≡◌, ◌≤◌, ◌+◌, ℕ, List, Result, Ok, Err, refl, sym, ◌∙◌, ap, subst, inl, inr}
+use Rattle.script_text.specs.declared.fault.LineFault.{LineFault}
+use Rattle.replay_core.specs.Meets.{MeetsInPlace}
+use Rattle.replay_core.specs.PlayLine.{play_line, recorded_by, behind_work}
+use Rattle.replay_core.specs.Pulling.{after_pulls}
+use Rattle.replay_core.specs.Stages.{Kept, StandsFor, kept_of}
+use Rattle.replay_core.proofs.Worked.{set_up, worked_so, took_line, stands_worked, stands_pulled, text_pulled, line_told, play_steps, refused_line}
+use Rattle.replay_core.proofs.player.Player.play.Goals.{in-Ok-pull_all, in-Err-pull_all}
+use Rattle.replay_core.proofs.player.Player.play.Goals as goal
+
+pub line-requires : goal.line-requires
+line-requires g c = set_up g.F.Floor.mark g.F.Floor.at g.F.Floor.step_limit g.F.PlainFloor.state c.self.inside.worker.config _
+    c.self.invariant.0 c.self.invariant.1
+
+pub returns-in-Err-clause-answer : goal.returns-in-Err-clause-answer
+returns-in-Err-clause-answer g c playing s =
+    let t = subst (λ (k : Kept g.row.F.Denot). StandsFor g.F.Floor.at k playing) (sym c.self.view_is) s in
+    rw c.fault_at.ensures
+    (refused_line g.F.Floor.mark g.F.Floor.at g.F.Floor.step_limit g.F.PlainFloor.state (g.F.Floor.mark c.self.inside.floor) c.self.inside.worker
+    c.self.inside.floor c.args.steps.now (c.line.new.floor, c.line.new.steps) c.self.inside.fault c.args.line playing c.args.text.now c.in-Err.fault
+    c.self.invariant.0 c.self.invariant.1 t (c.in-Err.ensures.refused playing.feed t.feed)).answer
+
+pub returns-in-Err-clause-steps : goal.returns-in-Err-clause-steps
+returns-in-Err-clause-steps g c playing s =
+    let t = subst (λ (k : Kept g.row.F.Denot). StandsFor g.F.Floor.at k playing) (sym c.self.view_is) s in
+    (refused_line g.F.Floor.mark g.F.Floor.at g.F.Floor.step_limit g.F.PlainFloor.state (g.F.Floor.mark c.self.inside.floor) c.self.inside.worker
+    c.self.inside.floor c.args.steps.now (c.line.new.floor, c.line.new.steps) c.self.inside.fault c.args.line playing c.args.text.now c.in-Err.fault
+    c.self.invariant.0 c.self.invariant.1 t (c.in-Err.ensures.refused playing.feed t.feed)).steps
+
+pub returns-clause-answer : goal.returns-clause-answer
+returns-clause-answer g c = elim c.match-pull_all.branch [
+  | in-Ok-pull_all w ↦ λ playing s.
+      let t = subst (λ (k : Kept g.row.F.Denot). StandsFor g.F.Floor.at k playing) (sym c.self.view_is) s in
+      let x = worked_so g.F.Floor.at g.F.Floor.step_limit (g.F.Floor.mark c.self.inside.floor) playing c.args.text.now c.line.new.self
+      c.args.out.now.items c.line.new.out.items (c.self.inside.floor, c.args.steps.now) (c.line.new.floor, c.line.new.steps)
+      (c.in-Ok.ensures.stands playing.feed t.feed) (c.in-Ok.ensures.text playing.feed t.feed) (c.in-Ok.ensures.took playing.feed t.feed) in
+      let took = took_line g.F.Floor.mark g.F.Floor.at g.F.Floor.step_limit g.F.PlainFloor.state (g.F.Floor.mark c.self.inside.floor)
+      c.self.inside.worker c.line.new.self c.self.inside.floor c.args.steps.now (c.line.new.floor, c.line.new.steps) c.self.inside.fault playing
+      c.args.text.now c.args.out.now.items c.line.new.out.items c.self.invariant.0 c.self.invariant.1 t c.in-Ok.ensures.config x in
+      let y = stands_worked g.F.Floor.mark g.F.Floor.at g.F.Floor.step_limit g.F.PlainFloor.state (g.F.Floor.mark c.self.inside.floor)
+      c.self.inside.worker c.line.new.self c.self.inside.floor c.args.steps.now (c.line.new.floor, c.line.new.steps) c.self.inside.fault playing
+      c.args.text.now c.args.out.now.items c.line.new.out.items t c.in-Ok.ensures.config c.in-Ok.ensures.cursors x took in
+      let behind = behind_work playing x.work (recorded_by playing x.work) in
+      let grew = text_pulled g.F.Floor.at c.line.new.self c.line.new.floor c.self.inside.fault behind c.line.new.out.items
+      c.pull_all.new.out.items y w.in-Ok-pull_all.ensures.text in
+      let told = line_told c.args.line playing c.args.text.now c.args.out.now.items c.line.new.out.items c.pull_all.new.out.items x.work x.says
+      took.room c.requires x.told grew in
+      let stands = stands_pulled g.F.Floor.at c.line.new.self c.pull_all.new.worker c.line.new.floor c.pull_all.new.floor c.self.inside.fault behind y
+      c.pull_all.ensures.config c.pull_all.ensures.moment w.in-Ok-pull_all.ensures.desks c.pull_all.ensures.journals in
+      subst (λ (r : Result (Unit {0}) LineFault). MeetsInPlace (StandsFor g.F.Floor.at) (play_line c.args.line playing c.args.text.now).result r
+      (kept_of c.pull_all.new.worker c.pull_all.new.floor c.self.inside.fault) c.pull_all.new.out.items) (sym w.result-is)
+      (after_pulls behind, told, stands)
+  | in-Err-pull_all w ↦ λ playing s.
+      subst (λ (r : Result (Unit {0}) LineFault). MeetsInPlace (StandsFor g.F.Floor.at) (play_line c.args.line playing c.args.text.now).result r
+      (kept_of c.pull_all.new.worker c.pull_all.new.floor c.self.inside.fault) c.pull_all.new.out.items) (sym w.result-is) (inl refl)
+]
+
+pub returns-clause-steps : goal.returns-clause-steps
+returns-clause-steps g c playing s =
+    let t = subst (λ (k : Kept g.row.F.Denot). StandsFor g.F.Floor.at k playing) (sym c.self.view_is) s in
+    let x = worked_so g.F.Floor.at g.F.Floor.step_limit (g.F.Floor.mark c.self.inside.floor) playing c.args.text.now c.line.new.self
+    c.args.out.now.items c.line.new.out.items (c.self.inside.floor, c.args.steps.now) (c.line.new.floor, c.line.new.steps)
+    (c.in-Ok.ensures.stands playing.feed t.feed) (c.in-Ok.ensures.text playing.feed t.feed) (c.in-Ok.ensures.took playing.feed t.feed) in
+    let took = took_line g.F.Floor.mark g.F.Floor.at g.F.Floor.step_limit g.F.PlainFloor.state (g.F.Floor.mark c.self.inside.floor)
+    c.self.inside.worker c.line.new.self c.self.inside.floor c.args.steps.now (c.line.new.floor, c.line.new.steps) c.self.inside.fault playing
+    c.args.text.now c.args.out.now.items c.line.new.out.items c.self.invariant.0 c.self.invariant.1 t c.in-Ok.ensures.config x in
+    subst (λ (n : ℕ). c.line.new.steps ≤ c.args.steps.now + n) (sym (play_steps c.args.line playing c.args.text.now x.work x.says)) took.steps

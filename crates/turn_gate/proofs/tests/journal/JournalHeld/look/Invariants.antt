@@ -1,7 +1,0 @@
--- The reports so far, and those of the events that are left, are all of the member's.
-use Rattle.std.proofs.Common.{◌≡◌, ◌++◌, drop}
-use Rattle.turn_gate.specs.EventReports.{reports_to}
-use Rattle.turn_gate.proofs.tests.journal.JournalHeld.look.Given as goal
-
-abbrev pub invariant-loop-event : goal.invariant-loop-event
-invariant-loop-event l = l.reports ++ reports_to l.member (drop l.event-index l.event-items) ≡ reports_to l.member l.event-items

@@ -1,5 +1,0 @@
--- The ledger of the steps, which nothing reads.
-use Rattle.venue_core.proofs.tests.fill.Given as goal
-
-abbrev pub ghosts-fill_counted : goal.ghosts-fill_counted
-ghosts-fill_counted a = record { name = a.blank.name; parts = a.blank.parts }

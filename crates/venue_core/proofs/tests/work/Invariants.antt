@@ -1,5 +1,0 @@
--- The ledger of the steps, which nothing reads.
-use Rattle.venue_core.proofs.tests.work.Given as goal
-
-abbrev pub ghosts-work_counted : goal.ghosts-work_counted
-ghosts-work_counted g a = record { name = a.blank.name; parts = a.blank.parts }
