@@ -1,4 +1,7 @@
 pub use Rattle.venue_words.specs.Causes
+pub mod Clocks
 pub mod Files
 pub mod Grows
+pub mod Links
+pub mod MemLinks
 pub mod Memory

@@ -5,47 +5,9 @@ ghost use Rattle.std.specs.Io.KnownBytes.{Consumes, IsAtEnd};
 ghost use Rattle.io_edge.specs.Files.{Files, file_named};
 ghost use Rattle.io_edge.specs.Memory.{files_of, left_at, IsFileAt};
 
+use crate::calls::Calls;
 use crate::edge::{Failed, Shelf, Sink};
 use std::alloc::Global;
-
-/// Counts calls, and says which of them fail.
-#[derive(Drop)]
-struct Calls {
-    fails: Vec<u64>,
-    made: u64,
-    faults: u64,
-}
-
-impl Calls {
-    fn new(fails: Vec<u64>) -> Calls
-        ensures { result.faults ≡ 0 }
-    {
-        Calls {
-            fails,
-            made: 0,
-            faults: 0,
-        }
-    }
-
-    fn fail(&mut self) -> Failed
-        ensures later { self.old.faults ≤ self.new.faults }
-        ensures rose { Rose self.old.faults self.new.faults }
-    {
-        self.faults = self.faults.saturating_add(1);
-        Failed
-    }
-
-    /// Counts a call, which fails where its number is listed.
-    fn call(&mut self) -> Result<(), Failed>
-        ensures { HasCause self.old.faults self.new.faults result }
-    {
-        self.made = self.made.saturating_add(1);
-        if self.fails.contains(&self.made) {
-            return Err(self.fail());
-        }
-        Ok(())
-    }
-}
 
 /// The place of the first file of this name.
 fn place_of(files: &[(String, Vec<u8>)], name: &str) -> Option<usize>

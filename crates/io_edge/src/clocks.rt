@@ -1,0 +1,83 @@
+//! The clock of the system, and one in memory.
+ghost use Rattle.std.specs.Prelude.{◌≡◌, [], Some, None};
+ghost use Rattle.io_edge.specs.MemLinks.{told_moments};
+
+use crate::link::Clock;
+use std::rt;
+use std::time::{Duration, SystemTime};
+
+/// The clock of the system. It tells nothing of what it has given.
+#[derive(Drop)]
+pub struct RealClock<'a, R: rt::Clock> {
+    rt: &'a R,
+    last: i64,
+}
+
+impl<'a, R: rt::Clock> RealClock<'a, R> {
+    /// Over the system's clock. Where that can't be read, the last moment is given again, at first 1970.
+    pub fn new(rt: &'a R) -> RealClock<'a, R> {
+        RealClock { rt, last: 0 }
+    }
+}
+
+impl<'a, R: rt::Clock> Clock for RealClock<'a, R> {
+    ghost told = { λ _. None };
+
+    fn now(&mut self) -> i64 {
+        if let Ok(now) = SystemTime::now(self.rt) {
+            let since = now
+                .duration_since(SystemTime::UNIX_EPOCH)
+                .unwrap_or(Duration::ZERO);
+            self.last = i64::try_from(since.as_millis()).unwrap_or(i64::MAX);
+        }
+        self.last
+    }
+}
+
+/// Gives these moments, and then the last one again and again.
+#[derive(Drop)]
+pub struct MemClock {
+    moments: Vec<i64>,
+    asked: u64,
+}
+
+impl MemClock {
+    /// Without a moment it gives 1970. Once it was asked 2^64 - 1 times, it tells nothing.
+    pub fn new(moments: Vec<i64>) -> MemClock
+        ensures { ⟦<MemClock as Clock>⟧.told result ≡ Some [] }
+    {
+        MemClock { moments, asked: 0 }
+    }
+}
+
+impl Clock for MemClock {
+    ghost told = { λ s. told_moments s.moments.items s.asked };
+
+    fn now(&mut self) -> i64 {
+        let last = self.moments.len().saturating_sub(1) as u64;
+        let place = self.asked.min(last) as usize;
+        self.asked = self.asked.saturating_add(1);
+        self.moments.get(place).copied().unwrap_or(0)
+    }
+}
+
+#[cfg(test)]
+mod tests {
+    use super::*;
+    use std::test::Fail;
+
+    fn sum_of_three<C: Clock>(clock: &mut C) -> i128 {
+        i128::from(clock.now()) + i128::from(clock.now()) + i128::from(clock.now())
+    }
+
+    #[test]
+    fn a_clock_repeats_its_last_moment(rt: HostRuntime) -> Result<(), Fail> {
+        let mut clock = MemClock::new(vec![in rt.alloc(); 5, -7]?);
+        assert_eq!(rt; sum_of_three(&mut clock), -9);
+        let mut unset = MemClock::new(Vec::new(rt.alloc()));
+        assert_eq!(rt; unset.now(), 0);
+        let year_2000 = 946_684_800_000;
+        assert!(rt; sum_of_three(&mut RealClock::new(&rt)) > 3 * year_2000);
+        Ok(())
+    }
+}
