@@ -96,5 +96,6 @@ pub fn read_words<'a>(alloc: Global, words: &'a [String]) -> Result<Vec<&'a str>
     }
 }
 
+pub mod arguments;
 #[cfg(test)]
 mod tests;

@@ -159,3 +159,11 @@ pub fn replay<H: Shelf, K: Sink, E: Sink, L: Ledger>(
 {
     replay_over::<PlainVenue<Book>, H, K, E, L>(alloc, words, shelf, out, err, steps)
 }
+
+/// Ends a run whose words could not even be read: the text of the status that this makes is put to `err`, once.
+pub fn refuse_words<E: Sink>(fault: WordFault, err: &mut E) -> Status
+    ensures told { IsTold (refusal_of fault) result (E.told err.old) (E.told err.new) (E.faults err.old) (E.faults err.new) }
+    ensures later { E.faults err.old ≤ E.faults err.new }
+{
+    tell(PROGRAM, refusal_of(fault), err)
+}

@@ -1,6 +1,6 @@
 //! How a run ended.
 ghost use Rattle.std.specs.Prelude.{◌≡◌};
-ghost use Rattle.replay_core.specs.Statuses.{status_of};
+ghost use Rattle.replay_core.specs.Statuses.{exit_code, status_of};
 
 use script_text::{LimitCause, LineCause, LineFault};
 
@@ -31,5 +31,20 @@ pub fn status_of(fault: LineFault) -> Status
         LineFault::Bad { line, cause } => Status::BadLine { line, cause },
         LineFault::Limit { line, which } => Status::LimitLine { line, which },
         LineFault::NoMemory => Status::NoMemory,
+    }
+}
+
+/// The program's exit status.
+pub fn exit_code(status: Status) -> u8
+    ensures { result ≡ exit_code status }
+{
+    match status {
+        Status::Done => 0,
+        Status::BadWords => 2,
+        Status::BadLine { .. } => 3,
+        Status::LimitLine { .. } => 4,
+        Status::ReadFault => 5,
+        Status::WriteFault => 6,
+        Status::NoMemory => 7,
     }
 }
