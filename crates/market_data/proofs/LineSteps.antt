@@ -1,0 +1,53 @@
+-- The lines of more quotes.
+use Rattle.std.proofs.Common.{◌≡◌, ℕ, ℤ, true, List, [], ◌∷◌, ◌++◌, Option, Some, None, refl, sym, ◌∙◌, ap, append_assoc, append-nil, map}
+use Rattle.std.specs.List.{flat_map}
+use Rattle.std.specs.Option.{option_to_list}
+use Rattle.std.proofs.lemmas.Grind.{flat_map-append}
+use Rattle.venue_words.specs.declared.command.Command.{Command}
+use Rattle.venue_words.specs.declared.config.Config.{Config}
+use Rattle.session_core.specs.declared.message.Request.{Request}
+use Rattle.market_data.specs.Lines.{TimedQuote, quotes_in, handed_quotes, all_quotes, moment_if, quote_line, lines_from, last_moment, feed_lines}
+
+pub lines-append : (config : Config) (last : Option ℤ) (xs ys : List TimedQuote)
+    → lines_from config last (xs ++ ys) ≡ lines_from config last xs ++ lines_from config (last_moment last xs) ys
+lines-append config last [] ys = refl
+lines-append config last (one ∷ xs) ys =
+    ap (λ (r : List ℕ). moment_if last one.moment ++ quote_line config one.symbol one.quote ++ r) (lines-append config (Some one.moment) xs ys)
+    ∙ sym (append_assoc (moment_if last one.moment ++ quote_line config one.symbol one.quote) (lines_from config (Some one.moment) xs) (lines_from config (last_moment (Some one.moment) xs) ys))
+
+pub last-append : (last : Option ℤ) (xs ys : List TimedQuote) → last_moment last (xs ++ ys) ≡ last_moment (last_moment last xs) ys
+last-append last [] ys = refl
+last-append last (one ∷ xs) ys = last-append (Some one.moment) xs ys
+
+quotes_more : (config : Config) (requests : List Request) (request : Option Request)
+    → all_quotes config (requests ++ option_to_list request) ≡ all_quotes config requests ++ handed_quotes config request
+quotes_more config requests None = flat_map-append (quotes_in config) requests []
+quotes_more config requests (Some request) =
+    flat_map-append (quotes_in config) requests (request ∷ [])
+    ∙ ap (λ (r : List TimedQuote). all_quotes config requests ++ r) (append-nil (quotes_in config request))
+
+pub lines_more : (config : Config) (requests : List Request) (request : Option Request)
+    → feed_lines config (all_quotes config (requests ++ option_to_list request))
+    ≡ feed_lines config (all_quotes config requests) ++ lines_from config (last_moment None (all_quotes config requests)) (handed_quotes config request)
+lines_more config requests request =
+    ap (feed_lines config) (quotes_more config requests request)
+    ∙ lines-append config None (all_quotes config requests) (handed_quotes config request)
+
+pub last_more : (config : Config) (requests : List Request) (request : Option Request)
+    → last_moment None (all_quotes config (requests ++ option_to_list request))
+    ≡ last_moment (last_moment None (all_quotes config requests)) (handed_quotes config request)
+last_more config requests request =
+    ap (last_moment None) (quotes_more config requests request)
+    ∙ last-append None (all_quotes config requests) (handed_quotes config request)
+
+-- all messages handed out later
+pub lines_all : (config : Config) (first second : List Request)
+    → feed_lines config (all_quotes config (first ++ second))
+    ≡ feed_lines config (all_quotes config first) ++ lines_from config (last_moment None (all_quotes config first)) (all_quotes config second)
+lines_all config first second =
+    ap (feed_lines config) (flat_map-append (quotes_in config) first second)
+    ∙ lines-append config None (all_quotes config first) (all_quotes config second)
+
+-- quotes of a symbol at a moment
+abbrev pub timed_all : ℤ → ℕ → List Command → List TimedQuote
+timed_all moment symbol quotes = map (λ quote. record { moment = moment; symbol = symbol; quote = quote }) quotes

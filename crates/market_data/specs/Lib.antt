@@ -1,0 +1,11 @@
+pub mod Entries
+pub mod Faults
+pub mod Feeding
+pub mod Lines
+pub mod Market
+pub mod Outcomes
+pub mod Plan
+pub mod Quotes
+pub mod Runs
+pub mod Snapshots
+pub mod Statuses

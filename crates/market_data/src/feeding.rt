@@ -1,0 +1,151 @@
+//! A market data session that is fed piece by piece, and the lines that its messages make.
+ghost use Rattle.std.specs.Prelude.{◌≡◌, ◌++◌, ℕ, List, IfOk, OnOk, IsSome};
+ghost use Rattle.venue_words.specs.Conditions.{IsConfig};
+ghost use Rattle.market_data.specs.Lines.{handed_quotes, last_moment, lines_from, quotes_in, sending_time};
+ghost use Rattle.market_data.specs.Feeding.{StandsFor, Adds};
+
+use crate::lines::push_snapshot;
+use crate::message_types::MARKET_DATA_SNAPSHOT;
+use crate::snapshots::{SnapshotRefusal, read_snapshot};
+use fix_fields::moment;
+use fix_frames::Framer;
+use session_core::lookup::value_of;
+use session_core::tags::SENDING_TIME;
+use session_core::{EndCause, Request, Session, Turn};
+use session_stream::{Heard, hear};
+use std::alloc::Global;
+use std::marker::Model;
+use venue_words::{Bytes, Config, NoMemory};
+
+/// The moment of a message: its SendingTime(52), in milliseconds since 1970-01-01 00:00 UTC.
+#[tactic(auto, unfolding(crate::specs::Lines::sending_time))]
+fn sending_time(request: &Request) -> Option<i64>
+    ensures { result ≡ sending_time request.now }
+{
+    match value_of(SENDING_TIME, request.fields.as_slice()) {
+        Some(bytes) => moment(bytes),
+        None => None,
+    }
+}
+
+/// Appends the lines of a message, which are those of a snapshot that is taken. After a refusal the text may hold a part of
+/// them.
+#[tactic(auto, unfolding(crate::specs::Lines::quotes_in))]
+fn push_message(
+    alloc: Global,
+    text: &mut Vec<u8>,
+    last: &mut Option<i64>,
+    config: &Config,
+    request: &Request,
+) -> Result<(), NoMemory>
+    requires { IsConfig config.now }
+    ensures lines { OnOk result (text.new.items
+        ≡ text.old.items ++ lines_from config.now last.old (quotes_in config.now request.now)) }
+    ensures last { OnOk result (last.new ≡ last_moment last.old (quotes_in config.now request.now)) }
+{
+    if request.kind != MARKET_DATA_SNAPSHOT {
+        return Ok(());
+    }
+    match read_snapshot(alloc, request, config) {
+        Ok(snapshot) => match sending_time(request) {
+            Some(moment) => push_snapshot(text, last, config, moment, &snapshot),
+            None => Ok(()),
+        },
+        Err(SnapshotRefusal::Reject { .. }) => Ok(()),
+        Err(SnapshotRefusal::NoMemory) => Err(NoMemory),
+    }
+}
+
+/// Appends the lines of the message that a turn hands out, if any. After a refusal the text may hold a part of them.
+fn push_handed(
+    alloc: Global,
+    text: &mut Vec<u8>,
+    last: &mut Option<i64>,
+    config: &Config,
+    handed: Option<Request>,
+) -> Result<(), NoMemory>
+    requires { IsConfig config.now }
+    ensures lines { OnOk result (text.new.items
+        ≡ text.old.items ++ lines_from config.now last.old (handed_quotes config.now handed)) }
+    ensures last { OnOk result (last.new ≡ last_moment last.old (handed_quotes config.now handed)) }
+{
+    match handed {
+        Some(request) => push_message(alloc, text, last, config, &request),
+        None => Ok(()),
+    }
+}
+
+/// Why a session ended that is over. Without a cause it ended for want of memory.
+fn end_of(turn: Turn) -> Result<Option<EndCause>, NoMemory>
+    ensures { IfOk result (λ ended. IsSome ended × (turn.ended ≡ ended)) }
+{
+    match turn.ended {
+        Some(cause) => Ok(Some(cause)),
+        None => Err(NoMemory),
+    }
+}
+
+/// A session with a source whose bytes come piece by piece. What it would send reaches nobody, so it answers no message:
+/// what is answered changes nothing of what comes. Of a message that the session sends by itself it keeps only the number.
+#[derive(Drop)]
+pub struct MarketSession {
+    alloc: Global,
+    session: Session,
+    framer: Framer,
+    /// The moment of the last T line.
+    last: Option<i64>,
+}
+
+impl Model for MarketSession {
+    ghost use Rattle.market_data.specs.Feeding.{Feeding};
+
+    ghost Value = { Feeding };
+
+    ghost view = { λ m. record { session = m.session; unread = m.framer.kept; last = m.last } };
+}
+
+impl MarketSession {
+    ghost use Rattle.market_data.specs.Feeding.{unfed};
+
+    /// A session with a source, before its first byte.
+    pub fn new(alloc: Global, source: Bytes) -> MarketSession
+        ensures { result ≡ unfed source }
+    {
+        MarketSession {
+            alloc,
+            session: Session::new(alloc, source),
+            framer: Framer::new(alloc),
+            last: None,
+        }
+    }
+
+    /// Works the next piece of the source's bytes: the lines that it makes are appended to the text, and the cause comes back
+    /// where the session ends in it. Then no further piece is to come. After a refusal the session has ended without a cause,
+    /// and the text may hold a part of the lines.
+    pub fn take(
+        &mut self,
+        config: &Config,
+        piece: &[u8],
+        text: &mut Vec<u8>,
+    ) -> Result<Option<EndCause>, NoMemory>
+        requires { IsConfig config.now }
+        ensures adds { IfOk result (λ ended. (source bytes : List ℕ) → StandsFor config.now source bytes self.old →
+            (added : List ℕ) × (text.new.items ≡ text.old.items ++ added)
+            × Adds config.now source bytes piece.now added ended self.new) }
+    {
+        self.framer.feed(piece)?;
+        'frames: loop {
+            let turn = match hear(&mut self.framer, &mut self.session, config.begin)? {
+                Heard::Frame(turn) => turn,
+                Heard::TooLong(turn) => return end_of(turn),
+                Heard::Wait => return Ok(None),
+            };
+            let Turn { request, ended, .. } = turn;
+            push_handed(self.alloc, text, &mut self.last, config, request)?;
+            match ended {
+                Some(cause) => return Ok(Some(cause)),
+                None => {}
+            }
+        }
+    }
+}
