@@ -1,0 +1,10 @@
+pub mod Fronts
+pub mod Cuts
+pub mod Logs
+pub mod Refused
+pub mod Stepping
+pub mod Standing
+pub mod Middles
+pub mod Endings
+pub mod Openings
+pub mod Completing

@@ -1,0 +1,9 @@
+pub mod DayFiles
+pub mod Agreement
+pub mod Refusing
+pub mod Crashes
+pub mod Statuses
+pub mod Keeping
+pub mod Opening
+pub mod Days
+pub mod Middle
