@@ -1,0 +1,4 @@
+pub mod Feeds
+pub mod Working
+pub mod Books
+pub mod Joined

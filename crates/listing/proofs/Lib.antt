@@ -1,0 +1,4 @@
+pub mod Handed
+pub mod Ordered
+pub mod Standing
+pub mod Walk

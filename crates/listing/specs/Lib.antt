@@ -1,0 +1,5 @@
+pub mod Commands
+pub mod Lines
+pub mod Listing
+pub mod Walking
+pub mod Handing
