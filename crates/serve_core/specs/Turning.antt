@@ -1,0 +1,163 @@
+-- What a turn of a served member does to the floor, the link and his desk.
+use Rattle.std.specs.Prelude.{◌≡◌, ◌<◌, ◌++◌, ◌⊎◌, ℕ, ℤ, List, Option, Some, Result, Ok, Err, length, take, slice_index}
+use Rattle.venue_words.specs.declared.config.Config.{Config}
+use Rattle.venue_words.specs.declared.report.Report.{Report}
+use Rattle.venue_words.specs.Floors.{FloorMark, SymbolView, TurnsRose}
+use Rattle.io_edge.specs.Links.{Told, Tells, WasPut}
+use Rattle.session_core.specs.declared.state.EndCause.{EndCause}
+use Rattle.session_core.specs.Machine.{IsUp}
+use Rattle.session_core.specs.State.{cause_of}
+use Rattle.member_gate.specs.Answering.{Submission}
+use Rattle.member_gate.specs.Desks.{DeskView}
+use Rattle.member_gate.specs.Submitting.{IsNextAt, IsFullNext}
+use Rattle.member_gate.specs.declared.refusal.DeskRefusal.{DeskRefusal}
+use Rattle.line_work.specs.Commands.{at_moment, commands_for}
+use Rattle.link_work.specs.declared.ends.LinkEnd.{LinkEnd}
+use Rattle.link_work.specs.declared.ends.LinkEnd.TheVariants.{Logout, PeerEnd, TooLow, NotLogon, BadLogon, NoNumber, WrongName, InUse, Silent, TooLong, Full, LinkFault, NoMemory}
+use Rattle.link_work.specs.Ends.{end_of}
+use Rattle.link_work.specs.Turns.{LinkTurn, joined}
+use Rattle.serve_core.specs.Growing.{Grew}
+use Rattle.serve_core.specs.Rounds.{Served, Serves, IsSent, IsRound, round_of, heard, work_in, sent_to, put_in, replies_in, reports_in, commands_in}
+
+-- on every symbol the own calls grew by exactly these commands of a turn
+abbrev pub GrewBy : {F : Type 0} → (F → ℕ → SymbolView) → ℕ → List (ℤ × Submission) → F → F → Type 0
+GrewBy at feed commands floor floor' =
+    (symbol : ℕ) → Grew feed (commands_for symbol commands) (at floor symbol) (at floor' symbol)
+
+-- The turn was worked whole, and all was put: the replies, and then the reports of what the floor shows then; each symbol was
+-- looked at where the session is up.
+pub record TookTurn {F : Type 0} (at : F → ℕ → SymbolView) (config : Config) (feed : ℕ) (turn : LinkTurn) (before : Served) (desk : DeskView) (floor floor' : F) (link link' : Option Told) : Type 0 where
+  pub after : Served
+  pub round : IsRound config (round_of turn before (λ symbol. (at floor' symbol).reports) after)
+  pub serves : Serves desk after
+  pub grew : GrewBy at feed (commands_in config turn before) floor floor'
+  pub put : Tells (WasPut (put_in config (round_of turn before (λ symbol. (at floor' symbol).reports) after))) link link'
+  pub turns : IsUp (heard config turn before).connection.session → (symbol : ℕ) → symbol < length config.symbols
+      → TurnsRose (at floor symbol).turns (at floor' symbol).turns
+
+-- the input ended the session: its replies were put, and no report
+pub record EndedTurn {F : Type 0} (at : F → ℕ → SymbolView) (config : Config) (feed : ℕ) (turn : LinkTurn) (before : Served) (end : LinkEnd) (desk : DeskView) (floor floor' : F) (link link' : Option Told) : Type 0 where
+  pub cause : EndCause
+  pub end_is : end ≡ end_of cause
+  pub cause_is : cause_of (heard config turn before).connection.session.state.phase ≡ Some cause
+  pub serves : Serves desk (heard config turn before)
+  pub grew : GrewBy at feed (commands_in config turn before) floor floor'
+  pub put : Tells (WasPut (replies_in config turn before)) link link'
+
+-- a put of a reply failed: a prefix of the replies was put, and no report
+pub record FailedReplies {F : Type 0} (at : F → ℕ → SymbolView) (config : Config) (feed : ℕ) (turn : LinkTurn) (before : Served) (desk : DeskView) (floor floor' : F) (link link' : Option Told) : Type 0 where
+  pub serves : Serves desk (heard config turn before)
+  pub grew : GrewBy at feed (commands_in config turn before) floor floor'
+  pub size : ℕ
+  pub put : Tells (WasPut (take size (replies_in config turn before))) link link'
+
+-- a put of a report failed: all replies were put, and a prefix of the reports
+pub record FailedReports {F : Type 0} (at : F → ℕ → SymbolView) (config : Config) (feed : ℕ) (turn : LinkTurn) (before : Served) (desk : DeskView) (floor floor' : F) (link link' : Option Told) : Type 0 where
+  pub after : Served
+  pub round : IsRound config (round_of turn before (λ symbol. (at floor' symbol).reports) after)
+  pub serves : Serves desk after
+  pub grew : GrewBy at feed (commands_in config turn before) floor floor'
+  pub size : ℕ
+  pub put : Tells (WasPut (replies_in config turn before ++ take size (reports_in config (round_of turn before (λ symbol. (at floor' symbol).reports) after)))) link link'
+
+-- a full journal is that of the next command that is left, and holds its limit
+abbrev pub IsFullAt : {F : Type 0} → (F → ℕ → SymbolView) → FloorMark → LinkEnd → List Submission → F → Type 0
+IsFullAt at mark (Full symbol found) left floor =
+    IsNextAt left symbol × (found ≡ length (at floor symbol).journal) × (found ≡ slice_index mark.setup.limits symbol)
+IsFullAt at mark _ left floor = Unit {0}
+
+-- a command found a full journal, or memory was wanted: the first commands were submitted, and a prefix of the replies was put
+pub record CutTurn {F : Type 0} (at : F → ℕ → SymbolView) (mark : FloorMark) (config : Config) (feed : ℕ) (turn : LinkTurn) (before : Served) (end : LinkEnd) (floor floor' : F) (link link' : Option Told) : Type 0 where
+  pub taken : List Submission
+  pub left : List Submission
+  pub parts : (work_in config turn before.connection).submissions ≡ taken ++ left
+  pub grew : GrewBy at feed (at_moment turn.moment taken) floor floor'
+  pub full : IsFullAt at mark end left floor'
+  pub size : ℕ
+  pub put : Tells (WasPut (take size (replies_in config turn before))) link link'
+
+-- how a turn ended the connection, by its end
+abbrev pub StoppedTurn : {F : Type 0} → (F → ℕ → SymbolView) → FloorMark → Config → ℕ → LinkTurn → Served → LinkEnd → DeskView → F → F → Option Told → Option Told → Type 0
+StoppedTurn at mark config feed turn before PeerEnd desk floor floor' link link' = ⊥
+StoppedTurn at mark config feed turn before InUse desk floor floor' link link' = ⊥
+StoppedTurn at mark config feed turn before LinkFault desk floor floor' link link' =
+    FailedReplies at config feed turn before desk floor floor' link link'
+    ⊎ FailedReports at config feed turn before desk floor floor' link link'
+StoppedTurn at mark config feed turn before (Full symbol found) desk floor floor' link link' =
+    CutTurn at mark config feed turn before (Full symbol found) floor floor' link link'
+StoppedTurn at mark config feed turn before NoMemory desk floor floor' link link' =
+    CutTurn at mark config feed turn before NoMemory floor floor' link link'
+StoppedTurn at mark config feed turn before end desk floor floor' link link' =
+    EndedTurn at config feed turn before end desk floor floor' link link'
+
+-- ---- parts of a turn
+
+-- a piece was refused: the floor took the first of its commands
+pub record RefusedPiece {F : Type 0} (at : F → ℕ → SymbolView) (mark : FloorMark) (feed : ℕ) (moment : ℤ) (refusal : DeskRefusal) (submissions : List Submission) (floor floor' : F) : Type 0 where
+  pub taken : List Submission
+  pub left : List Submission
+  pub parts : submissions ≡ taken ++ left
+  pub grew : GrewBy at feed (at_moment moment taken) floor floor'
+  pub full : IsFullNext at mark refusal left floor'
+
+-- the reports were put
+pub record PutReports (config : Config) (moment : ℤ) (looked : ℕ → List Report) (before : Served) (desk : DeskView) (link link' : Option Told) : Type 0 where
+  pub after : Served
+  pub sent : IsSent config moment looked before after
+  pub serves : Serves desk after
+  pub put : Tells (WasPut (joined (sent_to config moment before looked).turn.replies)) link link'
+
+-- a prefix of them was put
+pub record PutSome (config : Config) (moment : ℤ) (looked : ℕ → List Report) (before : Served) (desk : DeskView) (link link' : Option Told) : Type 0 where
+  pub after : Served
+  pub sent : IsSent config moment looked before after
+  pub serves : Serves desk after
+  pub size : ℕ
+  pub put : Tells (WasPut (take size (joined (sent_to config moment before looked).turn.replies))) link link'
+
+-- what became of the reports
+abbrev pub ReportsWere : {T : Type 0} → Config → ℤ → (ℕ → List Report) → Served → DeskView → Option Told → Option Told → Result T LinkEnd → Type 0
+ReportsWere config moment looked before desk link link' (Ok x) = PutReports config moment looked before desk link link'
+ReportsWere config moment looked before desk link link' (Err LinkFault) = PutSome config moment looked before desk link link'
+ReportsWere config moment looked before desk link link' (Err NoMemory) = link' ≡ link
+ReportsWere config moment looked before desk link link' (Err end) = ⊥
+
+-- replies, and the reports behind them, were put
+pub record PutTurn (config : Config) (moment : ℤ) (replies : List (List ℕ)) (looked : ℕ → List Report) (mid : Served) (desk : DeskView) (link link' : Option Told) : Type 0 where
+  pub after : Served
+  pub sent : IsSent config moment looked mid after
+  pub serves : Serves desk after
+  pub put : Tells (WasPut (joined replies ++ joined (sent_to config moment mid looked).turn.replies)) link link'
+
+-- the replies, and a prefix of the reports
+pub record PutPart (config : Config) (moment : ℤ) (replies : List (List ℕ)) (looked : ℕ → List Report) (mid : Served) (desk : DeskView) (link link' : Option Told) : Type 0 where
+  pub after : Served
+  pub sent : IsSent config moment looked mid after
+  pub serves : Serves desk after
+  pub size : ℕ
+  pub put : Tells (WasPut (joined replies ++ take size (joined (sent_to config moment mid looked).turn.replies))) link link'
+
+-- a prefix of the replies
+pub record PutFew (replies : List (List ℕ)) (mid : Served) (desk : DeskView) (link link' : Option Told) : Type 0 where
+  pub serves : Serves desk mid
+  pub size : ℕ
+  pub put : Tells (WasPut (take size (joined replies))) link link'
+
+-- the replies, and the session has ended
+pub record PutLast (replies : List (List ℕ)) (mid : Served) (desk : DeskView) (end : LinkEnd) (link link' : Option Told) : Type 0 where
+  pub cause : EndCause
+  pub end_is : end ≡ end_of cause
+  pub cause_is : cause_of mid.connection.session.state.phase ≡ Some cause
+  pub serves : Serves desk mid
+  pub put : Tells (WasPut (joined replies)) link link'
+
+-- what became of a turn whose input made these replies, and left the member served so
+abbrev pub TurnWas : {T : Type 0} → Config → ℤ → List (List ℕ) → (ℕ → List Report) → Served → DeskView → Option Told → Option Told → Result T LinkEnd → Type 0
+TurnWas config moment replies looked mid desk link link' (Ok x) = PutTurn config moment replies looked mid desk link link'
+TurnWas config moment replies looked mid desk link link' (Err PeerEnd) = ⊥
+TurnWas config moment replies looked mid desk link link' (Err InUse) = ⊥
+TurnWas config moment replies looked mid desk link link' (Err (Full symbol found)) = ⊥
+TurnWas config moment replies looked mid desk link link' (Err LinkFault) =
+    PutFew replies mid desk link link' ⊎ PutPart config moment replies looked mid desk link link'
+TurnWas config moment replies looked mid desk link link' (Err NoMemory) = Tells (WasPut (joined replies)) link link'
+TurnWas config moment replies looked mid desk link link' (Err end) = PutLast replies mid desk end link link'

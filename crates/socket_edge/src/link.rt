@@ -1,0 +1,132 @@
+//! A link over a socket.
+ghost use Rattle.std.specs.Prelude.{◌≡◌, ◌≤◌, ◌<◌, length, IfSome, None};
+ghost use Rattle.venue_words.specs.Causes.{Rose};
+
+use crate::bells::{Bells, Inbox, Message};
+use crossbeam_channel::RecvTimeoutError;
+use io_edge::{Failed, Link, Pulled};
+use std::alloc::Global;
+use std::io::Write;
+use std::rt;
+use std::sync::Wait;
+use std::time::Duration;
+
+/// How long a pull waits before it answers that nothing is there.
+const PULL_SECONDS: u64 = 1;
+
+/// A link over a socket that another thread reads. It tells nothing of what comes and is put.
+#[derive(Drop)]
+pub struct SocketLink<'a, R: Wait + rt::Clock, W: Write> {
+    rt: &'a R,
+    out: W,
+    inbox: Inbox,
+    bells: &'a Bells,
+    /// Its number among the bells.
+    own: usize,
+    /// What the last piece still has, and how many of its bytes were given.
+    piece: Vec<u8>,
+    given: usize,
+    faults: u64,
+    ends: u64,
+}
+
+impl<'a, R: Wait + rt::Clock, W: Write> SocketLink<'a, R, W> {
+    /// Over what the socket is written through, and the inbox of the bell of this number.
+    pub fn new(
+        rt: &'a R,
+        alloc: Global,
+        out: W,
+        inbox: Inbox,
+        bells: &'a Bells,
+        own: usize,
+    ) -> SocketLink<'a, R, W> {
+        SocketLink {
+            rt,
+            out,
+            inbox,
+            bells,
+            own,
+            piece: Vec::new(alloc),
+            given: 0,
+            faults: 0,
+            ends: 0,
+        }
+    }
+
+    fn fail(&mut self) -> Failed
+        ensures later { self.old.faults ≤ self.new.faults }
+        ensures rose { Rose self.old.faults self.new.faults }
+        ensures ends { self.new.ends ≡ self.old.ends }
+    {
+        self.faults = self.faults.saturating_add(1);
+        Failed
+    }
+
+    /// Gives more of the last piece, if it has more.
+    fn give(&mut self, buffer: &mut [u8]) -> Option<usize>
+        ensures inside { IfSome result (λ count. (0 < count) × (count ≤ length buffer.new)) }
+        ensures faults { self.new.faults ≡ self.old.faults }
+        ensures ends { self.new.ends ≡ self.old.ends }
+    {
+        let left = self.piece.len().saturating_sub(self.given);
+        let count = left.min(buffer.len());
+        if count == 0 {
+            return None;
+        }
+        let from = self.given;
+        buffer[..count].copy_from_slice(&self.piece[from..from + count]);
+        self.given += count;
+        Some(count)
+    }
+}
+
+impl<'a, R: Wait + rt::Clock, W: Write> Link for SocketLink<'a, R, W> {
+    ghost use Rattle.std.specs.Prelude.{None};
+
+    ghost faults = { λ s. s.faults };
+
+    ghost ends = { λ s. s.ends };
+
+    ghost told = { λ _. None };
+
+    fn pull(&mut self, buffer: &mut [u8]) -> Result<Pulled, Failed> {
+        if let Some(count) = self.give(buffer) {
+            return Ok(Pulled::Bytes(count));
+        }
+        match self
+            .inbox
+            .recv_timeout(self.rt, Duration::from_secs(PULL_SECONDS))
+        {
+            Ok(Message::Piece(piece)) => {
+                self.piece = piece;
+                self.given = 0;
+                match self.give(buffer) {
+                    Some(count) => Ok(Pulled::Bytes(count)),
+                    None => Ok(Pulled::Quiet),
+                }
+            }
+            Ok(Message::Ring) => {
+                self.bells.heard(self.own);
+                Ok(Pulled::Quiet)
+            }
+            Ok(Message::End) => {
+                self.ends = self.ends.saturating_add(1);
+                Ok(Pulled::End)
+            }
+            Ok(Message::Fault) => Err(self.fail()),
+            Err(RecvTimeoutError::Timeout) if !self.bells.has_lost(self.own) => Ok(Pulled::Quiet),
+            Err(_) => Err(self.fail()),
+        }
+    }
+
+    fn put(&mut self, piece: &[u8]) -> Result<(), Failed> {
+        if self.out.write_all(piece).is_err() {
+            return Err(self.fail());
+        }
+        Ok(())
+    }
+
+    fn ring(&mut self) {
+        self.bells.ring_others(self.rt, self.own);
+    }
+}
