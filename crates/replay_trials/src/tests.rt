@@ -1,6 +1,7 @@
 //! Runs over files and sinks in memory.
 ghost use Rattle.std.specs.Prelude.{◌≡◌, ◌<◌};
 
+mod certification;
 mod failing;
 mod hostile;
 mod in_pieces;
@@ -12,7 +13,7 @@ mod sessions;
 
 use io_edge::{MemShelf, MemSink, Shelf, Sink};
 use replay_core::replay::replay;
-use replay_core::status::Status;
+use replay_core::status::{Status, exit_code};
 use script_text::{LimitCause, LineCause};
 use std::alloc::{AllocError, Global};
 use std::marker::Brand;
@@ -80,15 +81,18 @@ pub struct Worked {
     pub script: &'static str,
     pub transcript: &'static str,
     pub told: &'static str,
+    /// The program's exit status.
+    pub status: u8,
 }
 
 /// Plays each script in pieces of one byte and in large ones.
 fn check_all(rt: &impl Abort, alloc: Global, worked: &[Worked]) -> Result<(), Fail> {
     for one in worked {
         for piece in [1usize, 4096] {
-            let (_, out, err) = played(alloc, one.script, piece)?;
+            let (status, out, err) = played(alloc, one.script, piece)?;
             assert_eq!(rt; out.bytes(), one.transcript.as_bytes(), "{}", one.name);
             assert_eq!(rt; err.bytes(), one.told.as_bytes(), "{}", one.name);
+            assert_eq!(rt; exit_code(status), one.status, "{}", one.name);
         }
     }
     Ok(())
