@@ -2,6 +2,7 @@
 # Times a book and measures its memory: orders that rest in three peg groups, quotes over them, and pairs of orders that trade at
 # once. It builds a scratch program in a temporary folder over copies of the crates below, and is no part of the gate.
 # Usage: bench/book.sh [EVENTS], where EVENTS is the greatest number of events of a kind.
+# shellcheck source=scratch.sh
 . "$(dirname "$0")/scratch.sh"
 events=${1:-100000}
 scratch book_load "venue_words eager_meaning limit_tree match_core symbol_book" \

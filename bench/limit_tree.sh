@@ -2,6 +2,7 @@
 # Times the tree of rows by limit beside std's BTreeMap over the same pairs: 200,000 puts, look-ups and cuts in
 # random order. It builds a scratch crate in a temporary folder over copies of the crates below, and is no part of
 # the gate. Usage: bench/limit_tree.sh
+# shellcheck source=scratch.sh
 . "$(dirname "$0")/scratch.sh"
 scratch tree_times "venue_words limit_tree" "venue_words limit_tree"
 cat > src/main.rt <<'END'

@@ -2,9 +2,10 @@
 """replay.py [PROGRAM ..]: times pegreplay and measures its memory. It is no part of the gate.
 
 Run it at the top of the repository behind `./build`. Each PROGRAM (bin/pegreplay if none is named) works the same runs on
-the same machine, one after the other: a mixed script of a million lines, and a load of pegged orders and quotes. The last
-lines tell what a quote costs beside 2,000 and beside 200,000 resting orders: the time of a script with a million quotes, less
-that of the same script without them.
+the same machine, one after the other: a mixed script of a million lines, a load of pegged orders and quotes, and a wide script of
+200 members who trade 200 symbols. The next lines tell what a quote costs beside 2,000 and beside 200,000 resting orders: the time of a
+script with a million quotes, less that of the same script without them. Where several programs are named, the last lines tell how many times as long
+the first one takes as each other one.
 """
 import os
 import subprocess
@@ -34,8 +35,34 @@ def best_of(runs, program, words):
 
 
 def report(program, name, words, events):
+    """Prints what a run takes, and gives its seconds."""
     seconds, memory = best_of(3, program, words)
     print(f"{program:24} {name:28} {seconds:7.2f} s {memory / 1e6:8.1f} MB {memory / events:7.0f} bytes an event")
+    return seconds
+
+
+def write_wide(path, members, symbols, orders):
+    """A script in which each member has so many orders in symbols that go round, half of them to buy, half to sell."""
+    with open(path, "w") as out:
+        print("PEGV 1", file=out)
+        for member in range(members):
+            print(f"MEMBER M{member}", file=out)
+        print("MARKET N", file=out)
+        for symbol in range(symbols):
+            print(f"SYMBOL S{symbol} 10000", file=out)
+        print(f"BEGIN {STAMP}.000", file=out)
+        for member in range(members):
+            print(f"M M{member} 35=A|49=M{member}|56=PEGV|34=1|52={STAMP}|98=0|108=30|1137=9|", file=out)
+        for symbol in range(symbols):
+            print(f"Q S{symbol} N 10.00 10.02", file=out)
+        for k in range(orders):
+            for member in range(members):
+                symbol = (member + k) % symbols
+                print(
+                    f"M M{member} 35=D|49=M{member}|56=PEGV|34={k + 2}|52={STAMP}|11={k}|55=S{symbol}|54={1 + k % 2}|38=100|40=P|1094=2|"
+                    f"60={STAMP}|",
+                    file=out,
+                )
 
 
 def write_resting(path, orders, quotes):
@@ -65,22 +92,33 @@ def quote_cost(program, folder, orders):
     return (times[1] - times[0]) / QUOTES * 1e9
 
 
+def ratios(name, programs, seconds):
+    """Prints how many times as long the first program takes as each other one."""
+    for program, other in zip(programs[1:], seconds[1:]):
+        print(f"{name:28} {programs[0]} takes {seconds[0] / other:.1f} times as long as {program}")
+
+
 def main():
     programs = sys.argv[1:] or ["bin/pegreplay"]
     here = os.path.dirname(os.path.abspath(__file__))
+    told = []
     with tempfile.TemporaryDirectory() as folder:
         script = os.path.join(folder, "mixed.txt")
         with open(script, "wb") as out:
             subprocess.run([sys.executable, os.path.join(here, "mixed_script.py"), "1", "1000000"], stdout=out, check=True)
-        for program in programs:
-            report(program, "mixed, 1,000,000 lines", [script], 1_000_000)
-    for program in programs:
-        report(program, "load 200000 200000", ["load", "200000", "200000"], 400_002)
-    with tempfile.TemporaryDirectory() as folder:
-        for program in programs:
-            for orders in [2_000, 200_000]:
-                cost = quote_cost(program, folder, orders)
+        wide = os.path.join(folder, "wide.txt")
+        write_wide(wide, 200, 200, 100)
+        runs = [("mixed, 1,000,000 lines", [script], 1_000_000), ("load 200000 200000", ["load", "200000", "200000"], 400_002),
+                ("wide, 200 by 200", [wide], 20_200)]
+        for name, words, events in runs:
+            told.append((name, [report(program, name, words, events) for program in programs]))
+        for orders in [2_000, 200_000]:
+            costs = [quote_cost(program, folder, orders) for program in programs]
+            for program, cost in zip(programs, costs):
                 print(f"{program:24} a quote beside {orders:>7,} resting orders: {cost:6.0f} ns")
+            told.append((f"a quote beside {orders:,}", costs))
+    for name, seconds in told:
+        ratios(name, programs, seconds)
 
 
 if __name__ == "__main__":

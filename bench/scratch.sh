@@ -1,3 +1,4 @@
+# shellcheck shell=sh
 # Sourced by the scripts beside it. `scratch NAME "DEPS" "CRATES"` makes a program in a temporary folder, which goes at the end,
 # over copies of these CRATES of the repository and on these DEPS of them, and goes into it. Its src/ is empty.
 set -e

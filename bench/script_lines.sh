@@ -2,6 +2,7 @@
 # Times `read_line` over lines of each kind: quotes of the first and of the last of 256 symbols, moments, and messages.
 # It builds a scratch crate in a temporary folder over copies of the crates below, and is no part of the gate.
 # Usage: bench/script_lines.sh
+# shellcheck source=scratch.sh
 . "$(dirname "$0")/scratch.sh"
 scratch line_times "venue_words script_text" "venue_words fix_fields fix_write quote_intake script_text"
 cat > src/main.rt <<'END'
