@@ -21,7 +21,17 @@ use program_words::arguments::arguments;
 use std::marker::Brand;
 use std::process::ExitCode;
 use std::sync::ledger::{Blank, Ledger};
+use terminal_hints::{Hint, named, word_at};
 use venue_words::Steps;
+
+const USAGE: &str =
+    "usage: pegday SCRIPT JOURNAL\nJOURNAL is made where it is not there; run the same words again after a crash.";
+
+const DIFFERS: &str =
+    "  the journal was kept of another script, or the script was changed there: name a new journal, or the script as it was";
+
+const DAMAGED: &str =
+    "  the journal is cut off or was changed by something else: restore it, or begin a new one";
 
 #[cfg(test)]
 mod tests;
@@ -46,9 +56,28 @@ fn run<L: Ledger>(rt: &HostRuntime, words: &[String], blank: Blank) -> DayStatus
     status
 }
 
+/// What a person is told of the status.
+fn hint_of(status: DayStatus, words: &[String]) -> Hint<'_> {
+    let file = word_at(words, 0);
+    match status {
+        DayStatus::Done | DayStatus::NoMemory => Hint::Nothing,
+        DayStatus::BadWords => Hint::Text(USAGE),
+        DayStatus::BadLine { line, cause } => Hint::BadLine { file, line, cause },
+        DayStatus::LimitLine { line, which } => Hint::LimitLine { file, line, which },
+        DayStatus::Differs { .. } => Hint::Text(DIFFERS),
+        DayStatus::Damaged { .. } => Hint::Text(DAMAGED),
+        DayStatus::DiskFault | DayStatus::ReadFault => Hint::Unread(named(words)),
+        DayStatus::WriteFault => Hint::Unwritten,
+    }
+}
+
 fn main(rt: HostRuntime) -> ExitCode {
     let status = match arguments(&rt) {
-        Ok(words) => run::<Brand>(&rt, words.as_slice(), Blank::new(1)),
+        Ok(words) => {
+            let status = run::<Brand>(&rt, words.as_slice(), Blank::new(1));
+            hint_of(status, words.as_slice()).show(&rt);
+            status
+        }
         Err(fault) => refuse_words(fault, &mut StreamSink::new(rt.stderr())),
     };
     ExitCode::from(exit_code(status))
