@@ -1,0 +1,104 @@
+//! Commands as lines tell them.
+ghost use Rattle.std.specs.Prelude.{◌≡◌, ◌<◌, ◌^◌, IfOk, length, slice_index};
+ghost use Rattle.order_fields.specs.Order.{command_of};
+ghost use Rattle.session_core.specs.Lookup.{text_in};
+ghost use Rattle.listing_reader.specs.Told.{told_quote, told_request, told_command};
+
+use crate::fields::{code_or_zero, terms_of, told_fields};
+use crate::words::{place_in, split_word, told_side};
+use fix_fields::Field;
+use order_fields::tags::{CL_ORD_ID, ORIG_CL_ORD_ID, SIDE};
+use session_core::lookup::text_in;
+use session_core::message_types::{CANCEL_REQUEST, NEW_ORDER, REPLACE_REQUEST};
+use std::alloc::Global;
+use venue_words::{Bytes, Command, Config, NoMemory};
+
+/// The quote of the words behind `Q`.
+#[tactic(auto, unfolding(crate::specs::Told::told_quote))]
+fn told_quote(text: &[u8], config: &Config) -> Command
+    requires { length config.now.markets < 2 ^ 32 }
+    ensures { result ≡ told_quote config.now text.now }
+{
+    let (market, sides) = split_word(text);
+    let (bid, offer) = split_word(sides);
+    Command::Quote {
+        market: place_in(config.markets.as_slice(), market),
+        bid: told_side(bid),
+        offer: told_side(offer),
+    }
+}
+
+/// A copy of the value of a tag.
+fn copy_of(alloc: Global, tag: u32, fields: &[Field]) -> Result<Bytes, NoMemory>
+    ensures { IfOk result (λ bytes. bytes ≡ text_in tag fields.now) }
+{
+    Ok(Bytes::copy_of(alloc, text_in(tag, fields))?)
+}
+
+/// What the fields of a message of this type ask for.
+#[tactic(auto, unfolding(order_fields::specs::Order::command_of))]
+fn command_of(alloc: Global, kind: u8, member: u32, fields: &[Field]) -> Result<Command, NoMemory>
+    ensures { IfOk result (λ command. command ≡ command_of kind member fields.now) }
+{
+    let id = copy_of(alloc, CL_ORD_ID, fields)?;
+    match kind {
+        NEW_ORDER => Ok(Command::New {
+            member,
+            id,
+            terms: terms_of(fields),
+        }),
+        CANCEL_REQUEST => Ok(Command::Cancel {
+            member,
+            id,
+            orig: copy_of(alloc, ORIG_CL_ORD_ID, fields)?,
+        }),
+        REPLACE_REQUEST => Ok(Command::Replace {
+            member,
+            id,
+            orig: copy_of(alloc, ORIG_CL_ORD_ID, fields)?,
+            terms: terms_of(fields),
+        }),
+        _ => Ok(Command::Status {
+            member,
+            id,
+            side: code_or_zero(SIDE, fields),
+        }),
+    }
+}
+
+/// What a member asks in a message of this type, by the words behind the type.
+#[tactic(auto, unfolding(crate::specs::Told::told_request))]
+fn told_request(alloc: Global, kind: u8, text: &[u8], config: &Config) -> Result<Command, NoMemory>
+    requires { length config.now.members < 2 ^ 32 }
+    ensures { IfOk result (λ command. command ≡ told_request config.now kind text.now) }
+{
+    let (member, fields) = split_word(text);
+    let member = place_in(config.members.as_slice(), member);
+    let fields = told_fields(alloc, fields)?;
+    command_of(alloc, kind, member, fields.as_slice())
+}
+
+/// The first byte of a text, or 0.
+fn first_byte(text: &[u8]) -> u8
+    ensures { result ≡ slice_index text.now 0 }
+{
+    match text.first() {
+        Some(byte) => *byte,
+        None => 0,
+    }
+}
+
+/// The command of its words. Of words that are no command it is some other command.
+#[tactic(auto, unfolding(crate::specs::Told::told_command))]
+pub fn told_command(alloc: Global, text: &[u8], config: &Config) -> Result<Command, NoMemory>
+    requires markets { length config.now.markets < 2 ^ 32 }
+    requires members { length config.now.members < 2 ^ 32 }
+    ensures { IfOk result (λ command. command ≡ told_command config.now text.now) }
+{
+    let (_, behind) = split_word(text);
+    let kind = first_byte(text);
+    if kind == b'Q' {
+        return Ok(told_quote(behind, config));
+    }
+    told_request(alloc, kind, behind, config)
+}
