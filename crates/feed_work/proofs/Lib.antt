@@ -1,12 +1,4 @@
-pub mod Closing
-pub mod Collecting
 pub mod Commands
-pub mod Fresh
 pub mod Growing
-pub mod Interleaving
-pub mod Joins
 pub mod Numbering
-pub mod Numbers
-pub mod OfConfig
-pub mod Splits
-pub mod Zips
+pub mod Places

@@ -9,7 +9,7 @@ use Rattle.feed_work.specs.declared.share.Share.{Share}
 use Rattle.feed_work.specs.declared.share.Worked.{Worked}
 use Rattle.feed_work.specs.Feeds.{Asked, IsFor}
 use Rattle.feed_work.specs.Working.{IsWorked, AreWorked, AreNumbered}
-use Rattle.feed_work.proofs.Zips.{within}
+use Rattle.feed_work.proofs.Places.{within}
 
 module _ {F : Type 0} where
   pub numbered_length : (feed : ℕ) (shares : List (F × Vec Asked Global)) (numbered : List (Share F)) → AreNumbered feed shares numbered

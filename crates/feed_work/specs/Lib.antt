@@ -1,4 +1,2 @@
 pub mod Feeds
 pub mod Working
-pub mod Books
-pub mod Joined

@@ -4,7 +4,7 @@ use Rattle.std.specs.declared.alloc.Global.{Global}
 use Rattle.feed_work.specs.Feeds.{Asked}
 use Rattle.feed_work.specs.Working.{AreNumbered}
 use Rattle.feed_work.proofs.Numbering.{numbered_length, numbered_snoc}
-use Rattle.feed_work.proofs.Zips.{all_of}
+use Rattle.feed_work.proofs.Places.{all_of}
 use Rattle.feed_work.proofs.share.numbered.Goals as goal
 
 pub loop-share-init : goal.loop-share-init

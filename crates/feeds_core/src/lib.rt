@@ -1,0 +1,35 @@
+//! The whole of a run over feeds: a config and feeds from a shelf, a venue on threads, its journals and reports to a sink, and a
+//! status with its text.
+#![tactic(auto)]
+
+mod answer;
+mod complete;
+mod config_copy;
+mod ended;
+mod feed_end;
+mod feed_list;
+mod feed_lists;
+mod feed_text;
+mod files;
+mod joining;
+mod listing_floor;
+mod looking;
+mod naming;
+mod plan;
+mod putting;
+mod reading;
+mod refused;
+mod run;
+mod running;
+mod splitting;
+mod status;
+mod sums;
+mod telling;
+mod venue;
+mod working;
+
+pub use complete::{run_surely, run_whole};
+pub use run::run_feeds;
+pub use status::{FeedsStatus, exit_code};
+pub use telling::refuse_words;
+pub use venue::work_on_venue;

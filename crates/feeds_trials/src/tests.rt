@@ -1,0 +1,93 @@
+//! Runs over files and sinks in memory.
+ghost use Rattle.std.specs.Prelude.{◌<◌};
+
+mod failing;
+mod full;
+mod many;
+mod paced;
+mod refused;
+
+use feed_work::{Pace, Unpaced};
+use feeds_core::{FeedsStatus, run_feeds};
+use io_edge::{MemShelf, MemSink};
+use std::alloc::{AllocError, Global};
+use std::sync::Wait;
+use std::thread::Threads;
+
+/// Two members, one market and one symbol.
+const CONFIG: &str =
+    "PEGV 1\nMEMBER A\nMEMBER B\nMARKET N\nSYMBOL X 100\nBEGIN 20240102-14:30:00.000\n";
+
+/// Calls of the shelf, of the output and of the second sink that fail; 0 is none.
+type Fails = (u64, u64, u64);
+
+/// What a run came to: its status, its output, and what was told of it.
+#[derive(Drop)]
+struct Ran {
+    status: FeedsStatus,
+    out: MemSink,
+    err: MemSink,
+}
+
+/// The name of a feed's file.
+fn feed_name(alloc: Global, number: usize) -> Result<String, AllocError> {
+    format!(in alloc; "feed{number}")
+}
+
+/// Runs a config and feeds in pieces of this size.
+fn run_paced<R: Threads + Wait + Sync, P: Pace + Sync>(
+    rt: &R,
+    alloc: Global,
+    pace: &P,
+    texts: (&str, &[&str]),
+    piece: usize,
+    fails: Fails,
+) -> Result<Ran, AllocError>
+    requires { 0 < piece }
+{
+    let mut files = Vec::new(alloc);
+    let mut words = Vec::new(alloc);
+    files.push((
+        String::from_str(alloc, "config")?,
+        Vec::from_slice(alloc, texts.0.as_bytes())?,
+    ))?;
+    words.push(String::from_str(alloc, "config")?)?;
+    for (k, feed) in texts.1.iter().enumerate() {
+        files.push((
+            feed_name(alloc, k)?,
+            Vec::from_slice(alloc, feed.as_bytes())?,
+        ))?;
+        words.push(feed_name(alloc, k)?)?;
+    }
+    let mut shelf = MemShelf::new(files, piece, vec![in alloc; fails.0]?);
+    let mut out = MemSink::new(alloc, vec![in alloc; fails.1]?);
+    let mut err = MemSink::new(alloc, vec![in alloc; fails.2]?);
+    let status = run_feeds(
+        rt,
+        alloc,
+        words.as_slice(),
+        pace,
+        &mut shelf,
+        &mut out,
+        &mut err,
+    );
+    Ok(Ran { status, out, err })
+}
+
+/// Runs a config and feeds in large pieces.
+fn run<R: Threads + Wait + Sync>(
+    rt: &R,
+    alloc: Global,
+    config: &str,
+    feeds: &[&str],
+) -> Result<Ran, AllocError> {
+    run_paced(rt, alloc, &Unpaced, (config, feeds), 4096, (0, 0, 0))
+}
+
+/// A word of a line, counted from 0.
+fn word_of(line: &str, place: usize) -> &str {
+    match line.split(' ').nth(place) {
+        Some(word) => word,
+        None => "",
+    }
+}
