@@ -1,10 +1,9 @@
 -- Which faults of the words and of the config are failed reads.
-use Rattle.std.proofs.Common.{◌≡◌, Result, Err, refl}
+use Rattle.std.proofs.Common.{◌≡◌, refl}
 use Rattle.program_words.specs.declared.WordFault.{WordFault}
 use Rattle.program_words.specs.declared.WordFault.TheVariants as word
 use Rattle.line_reader.specs.declared.config_file.ConfigFault.{ConfigFault}
 use Rattle.line_reader.specs.declared.config_file.ConfigFault.TheVariants as fault
-use Rattle.serve_core.specs.declared.setup.SetupFault.{SetupFault}
 use Rattle.serve_core.specs.declared.setup.SetupFault.TheVariants as setup
 use Rattle.serve_core.specs.Setups.{of_words, of_config}
 

@@ -1,13 +1,13 @@
 -- What calls of a floor add to what it shows.
-use Rattle.std.proofs.Common.{◌≡◌, ◌≢◌, ◌⊎◌, ◌<◌, ◌≤◌, ◌+◌, ◌-◌, ◌==◌, ◌++◌, ◌∷◌, [], zero, suc, ℕ, ℤ, Bool, true, false, List, length, map, Option, Some, None, slice_get, refl, sym, ◌∙◌, ap, subst, append-nil, append_assoc, length-append, arith, inl, inr}
+use Rattle.std.proofs.Common.{◌≡◌, ◌≢◌, ◌+◌, ◌-◌, ◌==◌, ◌++◌, ◌∷◌, [], zero, suc, ℕ, ℤ, true, false, List, length, Option, Some, None, slice_get, refl, sym, ◌∙◌, ap, subst, append-nil, append_assoc, length-append, arith, inl, inr}
 use Rattle.std.specs.List.{AllZip}
 use Rattle.std.proofs.lemmas.Bool.{cases_eq}
 use Rattle.venue_words.specs.declared.command.Command.{Command}
 use Rattle.venue_words.specs.declared.command.Event.{Event}
-use Rattle.venue_words.specs.Floors.{FloorMark, SymbolView, Records, AddsNone, TurnsKept, TurnsRose}
+use Rattle.venue_words.specs.Floors.{FloorMark, SymbolView, Records, TurnsKept, TurnsRose}
 use Rattle.venue_words.specs.Journals.{event, StartsWith}
 use Rattle.member_gate.specs.Answering.{Submission}
-use Rattle.member_gate.specs.Submitting.{TookOne, TookAll, TookNone, IsNextAt, Waited}
+use Rattle.member_gate.specs.Submitting.{TookAll, TookNone, Waited}
 use Rattle.line_work.specs.Commands.{at_moment, commands_for}
 use Rattle.serve_core.specs.Growing.{IsEventOf, Grew}
 

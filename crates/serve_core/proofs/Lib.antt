@@ -1,6 +1,10 @@
+pub mod Connecting
 pub mod Faults
+pub mod Greetings
 pub mod Grows
+pub mod NamingLaws
 pub mod Over
 pub mod Pieces
 pub mod Reports
+pub mod SessionLaws
 pub mod WholeTurns

@@ -1,8 +1,7 @@
 -- A line that was taken is within the limit.
-use Rattle.std.proofs.Common.{◌≡◌, ◌≤◌, ◌<◌, ℕ, Bool, true, false, cond, nat_lt, Result, Ok, Err, refl, sym, ◌∙◌, ap, arith}
+use Rattle.std.proofs.Common.{◌≡◌, ◌≤◌, ℕ, Bool, true, false, cond, nat_lt, Result, Ok, Err, refl, sym, ◌∙◌, ap, arith}
 use Rattle.line_reader.specs.Reading.{Reading}
 use Rattle.line_reader.specs.NextLines.{HandsOut}
-use Rattle.std.proofs.lemmas.Grind.{common_steps}
 
 not_over : {T E : Type 0} (over : Bool) (v : T) (fault : E) (read : Result T E) → Ok v ≡ cond over (Err fault) read → over ≡ false
 not_over true v fault read e = absurd (cc)

@@ -1,5 +1,5 @@
 -- A piece that was refused.
-use Rattle.std.proofs.Common.{◌≡◌, ℕ, ℤ, List, [], ◌++◌, Option, append-nil, subst}
+use Rattle.std.proofs.Common.{ℕ, ℤ, List, [], Option, append-nil, subst}
 use Rattle.venue_words.specs.declared.command.Command.{Command}
 use Rattle.venue_words.specs.declared.command.Event.{Event}
 use Rattle.venue_words.specs.Floors.{FloorMark, SymbolView}

@@ -1,5 +1,5 @@
 -- What a desk sends of the member's reports, as that of the member whom it serves.
-use Rattle.std.proofs.Common.{◌≡◌, ◌⊎◌, ◌<◌, ℕ, ℤ, List, length, refl, sym, ◌∙◌, ap, subst, inl, inr}
+use Rattle.std.proofs.Common.{◌≡◌, ℕ, ℤ, List, length, refl, sym, ◌∙◌, ap, subst, inl, inr}
 use Rattle.venue_words.specs.declared.config.Config.{Config}
 use Rattle.venue_words.specs.declared.report.Report.{Report}
 use Rattle.session_core.specs.Machine.{Machine, Outcome, IsUp, IsOver}

@@ -1,5 +1,5 @@
 -- The parts of a turn make the turn.
-use Rattle.std.proofs.Common.{◌≡◌, ◌<◌, ◌++◌, ◌⊎◌, [], ℕ, ℤ, List, Option, Some, None, Result, Ok, Err, length, take, refl, sym, ◌∙◌, ap, subst, append-nil, arith, inl, inr}
+use Rattle.std.proofs.Common.{◌≡◌, ◌<◌, ◌++◌, [], ℕ, ℤ, List, Option, Some, None, Result, Ok, Err, length, take, refl, sym, subst, append-nil, arith, inl, inr}
 use Rattle.std.proofs.lemmas.List.{take_all}
 use Rattle.venue_words.specs.declared.config.Config.{Config}
 use Rattle.venue_words.specs.declared.report.Report.{Report}
@@ -12,53 +12,55 @@ use Rattle.session_core.specs.Machine.{IsUp}
 use Rattle.session_core.specs.State.{cause_of}
 use Rattle.member_gate.specs.Answering.{Submission}
 use Rattle.member_gate.specs.Desks.{DeskView}
-use Rattle.member_gate.specs.Submitting.{Waited, IsFullNext}
+use Rattle.member_gate.specs.Submitting.{Waited}
 use Rattle.member_gate.specs.declared.refusal.DeskRefusal.{DeskRefusal}
 use Rattle.member_gate.specs.declared.refusal.DeskRefusal.TheVariants as refusal
-use Rattle.line_work.specs.Commands.{at_moment, commands_for}
+use Rattle.line_work.specs.Commands.{commands_for}
 use Rattle.link_work.specs.declared.ends.LinkEnd.{LinkEnd}
 use Rattle.link_work.specs.declared.ends.LinkEnd.TheVariants.{Logout, PeerEnd, TooLow, NotLogon, BadLogon, NoNumber, WrongName, InUse, Silent, TooLong, Full, LinkFault, NoMemory}
 use Rattle.link_work.specs.Ends.{end_of, refused}
 use Rattle.link_work.specs.Turns.{LinkTurn, joined}
 use Rattle.link_work.proofs.Frames.{put_more, put_none}
 use Rattle.serve_core.specs.Growing.{Grew}
-use Rattle.serve_core.specs.Rounds.{Served, Serves, IsSent, IsRound, round_of, heard, work_in, sent_to, put_in, replies_in, reports_in, commands_in}
-use Rattle.serve_core.specs.Turning.{GrewBy, TookTurn, EndedTurn, FailedReplies, FailedReports, IsFullAt, CutTurn, StoppedTurn, RefusedPiece, PutReports, PutSome, ReportsWere, PutTurn, PutPart, PutFew, PutLast, TurnWas}
+use Rattle.serve_core.specs.Rounds.{Served, Serves, heard, work_in, sent_to, replies_in, commands_in}
+use Rattle.serve_core.specs.Turning.{GrewBy, TookTurn, EndedTurn, StoppedTurn, RefusedPiece, ReportsWere, PutTurn, PutLast, TurnWas}
 use Rattle.io_edge.specs.Links.Answer.{quiet}
 use Rattle.serve_core.proofs.Grows.{grew_none, grew_same, grew_then, kept_rose}
 
 -- ---- the reports behind the replies
 
 pub turn_was : {T : Type 0} (config : Config) (moment : ℤ) (replies : List (List ℕ)) (looked : ℕ → List Report) (mid : Served)
-    (desk : DeskView) (link link' link'' : Option Told) (result : Result T LinkEnd) → Tells (WasPut (joined replies)) link link'
+    (desk : DeskView) (link link' link'' : Option Told) (result : Result T LinkEnd)
+    → cause_of mid.connection.session.state.phase ≡ None → Tells (WasPut (joined replies)) link link'
     → ReportsWere config moment looked mid desk link' link'' result
     → TurnWas config moment replies looked mid desk link link'' result
-turn_was config moment replies looked mid desk link link' link'' (Ok x) put were = record {
+turn_was config moment replies looked mid desk link link' link'' (Ok x) on put were = record {
+  on = on;
   after = were.after;
   sent = were.sent;
   serves = were.serves;
   put = put_more (joined replies) (joined (sent_to config moment mid looked).turn.replies) link link' link'' put were.put;
 }
-turn_was config moment replies looked mid desk link link' link'' (Err LinkFault) put were = inr (record {
+turn_was config moment replies looked mid desk link link' link'' (Err LinkFault) on put were = inr (record {
   after = were.after;
   sent = were.sent;
   serves = were.serves;
   size = were.size;
   put = put_more (joined replies) (take were.size (joined (sent_to config moment mid looked).turn.replies)) link link' link'' put were.put;
 })
-turn_was config moment replies looked mid desk link link' link'' (Err NoMemory) put were =
+turn_was config moment replies looked mid desk link link' link'' (Err NoMemory) on put were =
     subst (λ (t : Option Told). Tells (WasPut (joined replies)) link t) (sym were) put
-turn_was config moment replies looked mid desk link link' link'' (Err Logout) put were = absurd were
-turn_was config moment replies looked mid desk link link' link'' (Err PeerEnd) put were = absurd were
-turn_was config moment replies looked mid desk link link' link'' (Err TooLow) put were = absurd were
-turn_was config moment replies looked mid desk link link' link'' (Err NotLogon) put were = absurd were
-turn_was config moment replies looked mid desk link link' link'' (Err BadLogon) put were = absurd were
-turn_was config moment replies looked mid desk link link' link'' (Err NoNumber) put were = absurd were
-turn_was config moment replies looked mid desk link link' link'' (Err WrongName) put were = absurd were
-turn_was config moment replies looked mid desk link link' link'' (Err InUse) put were = absurd were
-turn_was config moment replies looked mid desk link link' link'' (Err Silent) put were = absurd were
-turn_was config moment replies looked mid desk link link' link'' (Err TooLong) put were = absurd were
-turn_was config moment replies looked mid desk link link' link'' (Err (Full symbol found)) put were = absurd were
+turn_was config moment replies looked mid desk link link' link'' (Err Logout) on put were = absurd were
+turn_was config moment replies looked mid desk link link' link'' (Err PeerEnd) on put were = absurd were
+turn_was config moment replies looked mid desk link link' link'' (Err TooLow) on put were = absurd were
+turn_was config moment replies looked mid desk link link' link'' (Err NotLogon) on put were = absurd were
+turn_was config moment replies looked mid desk link link' link'' (Err BadLogon) on put were = absurd were
+turn_was config moment replies looked mid desk link link' link'' (Err NoNumber) on put were = absurd were
+turn_was config moment replies looked mid desk link link' link'' (Err WrongName) on put were = absurd were
+turn_was config moment replies looked mid desk link link' link'' (Err InUse) on put were = absurd were
+turn_was config moment replies looked mid desk link link' link'' (Err Silent) on put were = absurd were
+turn_was config moment replies looked mid desk link link' link'' (Err TooLong) on put were = absurd were
+turn_was config moment replies looked mid desk link link' link'' (Err (Full symbol found)) on put were = absurd were
 
 -- the session ended the connection
 ended_by : (T : Type 0) (config : Config) (moment : ℤ) (replies : List (List ℕ)) (looked : ℕ → List Report) (mid : Served)
@@ -173,6 +175,7 @@ pub took_turn : {F : Type 0} (at : F → ℕ → SymbolView) (config : Config) (
     → TookTurn at config feed turn before desk floor floor'' link link'
 took_turn at config feed turn before desk floor floor' floor'' link link' replies same grew waited rose was =
     let looked : ℕ → List Report = λ symbol. (at floor'' symbol).reports in record {
+      on = was.on;
       after = was.after;
       round = was.sent;
       serves = was.serves;

@@ -1,5 +1,5 @@
 -- Whose a connection is: its first frame that splits into fields names the member.
-use Rattle.std.specs.Prelude.{ℕ, Bool, List, [], ◌∷◌, Option, Some, None, Result, Ok, Err, if◌then◌else◌, is_none, position}
+use Rattle.std.specs.Prelude.{◌≡◌, ◌<◌, ◌++◌, ℕ, Bool, List, [], ◌∷◌, Option, Some, None, Result, Ok, Err, if◌then◌else◌, is_none, position}
 use Rattle.std.specs.Str.{bytes_eq}
 use Rattle.fix_fields.specs.declared.field.Field.{Field}
 use Rattle.fix_fields.specs.declared.field.FieldFault.{FieldFault}
@@ -45,3 +45,18 @@ greeted_in config too_long (frame ∷ frames) = by_fields config (split (content
 -- what all bytes of a connection so far say
 abbrev pub greeting_of : Config → List ℕ → Greeting
 greeting_of config bytes = greeted_in config (reading_of bytes).too_long (reading_of bytes).frames
+
+-- whatever follows, these bytes say the same with it as those
+abbrev pub SayTheSame : Config → List ℕ → List ℕ → Type 0
+SayTheSame config bytes others = (more : List ℕ) → greeting_of config (bytes ++ more) ≡ greeting_of config (others ++ more)
+
+-- what a frame says of whose a connection is, or that it says nothing
+abbrev pub IsSaidBy : Config → List ℕ → Option Greeting → Type 0
+IsSaidBy config frame None = (rest : Greeting) → by_fields config (split (content_of frame)) rest ≡ rest
+IsSaidBy config frame (Some said) = (rest : Greeting) → by_fields config (split (content_of frame)) rest ≡ said
+
+-- a member who is named is one of so many
+abbrev pub IsAmong : ℕ → Greeting → Type 0
+IsAmong members (Member member) = member < members
+IsAmong members Unnamed = Unit {0}
+IsAmong members (Refused cause) = Unit {0}

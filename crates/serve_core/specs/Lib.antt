@@ -1,6 +1,9 @@
+pub mod Connections
 pub mod Greeting
 pub mod Growing
+pub mod Naming
 pub mod Rounds
+pub mod Sessions
 pub mod Setups
 pub mod Statuses
 pub mod Turning

@@ -1,5 +1,5 @@
 -- What a turn of a served member does to the floor, the link and his desk.
-use Rattle.std.specs.Prelude.{◌≡◌, ◌<◌, ◌++◌, ◌⊎◌, ℕ, ℤ, List, Option, Some, Result, Ok, Err, length, take, slice_index}
+use Rattle.std.specs.Prelude.{◌≡◌, ◌<◌, ◌++◌, ◌⊎◌, ℕ, ℤ, List, Option, Some, None, Result, Ok, Err, length, take, slice_index}
 use Rattle.venue_words.specs.declared.config.Config.{Config}
 use Rattle.venue_words.specs.declared.report.Report.{Report}
 use Rattle.venue_words.specs.Floors.{FloorMark, SymbolView, TurnsRose}
@@ -13,7 +13,7 @@ use Rattle.member_gate.specs.Submitting.{IsNextAt, IsFullNext}
 use Rattle.member_gate.specs.declared.refusal.DeskRefusal.{DeskRefusal}
 use Rattle.line_work.specs.Commands.{at_moment, commands_for}
 use Rattle.link_work.specs.declared.ends.LinkEnd.{LinkEnd}
-use Rattle.link_work.specs.declared.ends.LinkEnd.TheVariants.{Logout, PeerEnd, TooLow, NotLogon, BadLogon, NoNumber, WrongName, InUse, Silent, TooLong, Full, LinkFault, NoMemory}
+use Rattle.link_work.specs.declared.ends.LinkEnd.TheVariants.{PeerEnd, InUse, Full, LinkFault, NoMemory}
 use Rattle.link_work.specs.Ends.{end_of}
 use Rattle.link_work.specs.Turns.{LinkTurn, joined}
 use Rattle.serve_core.specs.Growing.{Grew}
@@ -24,9 +24,10 @@ abbrev pub GrewBy : {F : Type 0} → (F → ℕ → SymbolView) → ℕ → List
 GrewBy at feed commands floor floor' =
     (symbol : ℕ) → Grew feed (commands_for symbol commands) (at floor symbol) (at floor' symbol)
 
--- The turn was worked whole, and all was put: the replies, and then the reports of what the floor shows then; each symbol was
--- looked at where the session is up.
+-- The turn was worked whole, and its input did not end the session. All was put: the replies, and then the reports of what the
+-- floor shows then; each symbol was looked at where the session is up.
 pub record TookTurn {F : Type 0} (at : F → ℕ → SymbolView) (config : Config) (feed : ℕ) (turn : LinkTurn) (before : Served) (desk : DeskView) (floor floor' : F) (link link' : Option Told) : Type 0 where
+  pub on : cause_of (heard config turn before).connection.session.state.phase ≡ None
   pub after : Served
   pub round : IsRound config (round_of turn before (λ symbol. (at floor' symbol).reports) after)
   pub serves : Serves desk after
@@ -122,8 +123,9 @@ ReportsWere config moment looked before desk link link' (Err LinkFault) = PutSom
 ReportsWere config moment looked before desk link link' (Err NoMemory) = link' ≡ link
 ReportsWere config moment looked before desk link link' (Err end) = ⊥
 
--- replies, and the reports behind them, were put
+-- the session goes on, and replies, and the reports behind them, were put
 pub record PutTurn (config : Config) (moment : ℤ) (replies : List (List ℕ)) (looked : ℕ → List Report) (mid : Served) (desk : DeskView) (link link' : Option Told) : Type 0 where
+  pub on : cause_of mid.connection.session.state.phase ≡ None
   pub after : Served
   pub sent : IsSent config moment looked mid after
   pub serves : Serves desk after

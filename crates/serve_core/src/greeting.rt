@@ -1,16 +1,15 @@
 //! Who a connection is of.
-ghost use Rattle.std.specs.Prelude.{◌≡◌, ◌<◌, ◌≤◌, ℕ, length, IfOk, IfSome};
+ghost use Rattle.std.specs.Prelude.{◌≡◌, ◌≢◌, ◌<◌, ◌≤◌, ◌++◌, ℕ, List, Ok, Some, length, IfOk, IfSome};
 ghost use Rattle.session_core.specs.Content.{behind_first_end, content_of};
-ghost use Rattle.venue_words.specs.declared.limits.TheConstants.{MAX_MEMBERS};
-ghost use Rattle.serve_core.specs.Greeting.{greeted_by, member_named};
+ghost use Rattle.venue_words.specs.declared.limits.TheConstants.{MAX_FRAME_BYTES, MAX_MEMBERS};
+ghost use Rattle.serve_core.specs.Greeting.{IsAmong, IsSaidBy, SayTheSame, greeted_by, greeting_of, member_named};
 
 use fix_fields::{Field, FieldFault, fields};
-use fix_frames::read_frames;
+use fix_frames::{Framer, Next};
 use session_core::EndCause;
 use session_core::lookup::{message_number, value_of};
 use session_core::tags::SENDER_COMP_ID;
 use std::alloc::Global;
-use venue_words::limits::MAX_FRAME_BYTES;
 use venue_words::{Bytes, Config, NoMemory};
 
 /// What the bytes of a connection say of whose it is.
@@ -63,7 +62,8 @@ fn member_named(members: &[Bytes], name: &[u8]) -> Option<usize>
 fn greeted_by(config: &Config, fields: &[Field]) -> Greeting
     requires { length config.now.members ≤ MAX_MEMBERS }
     ensures said { result ≡ greeted_by config.now fields.now }
-    ensures member { (member : ℕ) → result ≡ Greeting.Member member → member < length config.now.members }
+    ensures some { result ≢ Greeting.Unnamed }
+    ensures member { IsAmong (length config.now.members) result }
 {
     let named = match value_of(SENDER_COMP_ID, fields) {
         Some(name) => member_named(config.members.as_slice(), name),
@@ -76,27 +76,58 @@ fn greeted_by(config: &Config, fields: &[Field]) -> Greeting
     }
 }
 
-/// What all bytes that a connection brought so far say.
-pub fn greeting_of(alloc: Global, config: &Config, bytes: &[u8]) -> Result<Greeting, NoMemory>
-    requires { length config.now.members ≤ MAX_MEMBERS }
-    ensures { IfOk result (λ greeting. (member : ℕ) → greeting ≡ Greeting.Member member
-        → member < length config.now.members) }
+/// What a frame says of whose the connection is: nothing where it does not split into fields.
+fn greeting_in(alloc: Global, config: &Config, frame: &[u8]) -> Result<Option<Greeting>, NoMemory>
+    requires members { length config.now.members ≤ MAX_MEMBERS }
+    requires short { length frame.now ≤ MAX_FRAME_BYTES }
+    ensures said { IfOk result (λ said. IsSaidBy config.now frame.now said) }
+    ensures some { IfOk result (λ said. said ≢ Some Greeting.Unnamed) }
+    ensures member { IfOk result (λ said. IfSome said (IsAmong (length config.now.members))) }
 {
-    let reading = read_frames(alloc, &[bytes])?;
-    for frame in reading.frames.as_slice() {
-        let content = content_of(frame.as_slice());
-        if content.len() > MAX_FRAME_BYTES {
-            continue;
-        }
-        match fields(alloc, content) {
-            Ok(fields) => return Ok(greeted_by(config, fields.as_slice())),
-            Err(FieldFault::NoMemory) => return Err(NoMemory),
-            Err(_) => {}
+    match fields(alloc, content_of(frame)) {
+        Ok(fields) => Ok(Some(greeted_by(config, fields.as_slice()))),
+        Err(FieldFault::NoMemory) => Err(NoMemory),
+        Err(_) => Ok(None),
+    }
+}
+
+/// Takes frames from a stream until one says whose the connection is.
+fn next_greeting(alloc: Global, config: &Config, framer: &mut Framer) -> Result<Greeting, NoMemory>
+    requires members { length config.now.members ≤ MAX_MEMBERS }
+    ensures said { IfOk result (λ greeting. greeting ≡ greeting_of config.now framer.old.kept) }
+    ensures on { result ≡ Ok Greeting.Unnamed → SayTheSame config.now framer.old.kept framer.new.kept }
+    ensures member { IfOk result (IsAmong (length config.now.members)) }
+{
+    'frames: loop {
+        match framer.next() {
+            Next::Frame(frame) => {
+                let said = greeting_in(alloc, config, frame)?;
+                match said {
+                    Some(greeting) => return Ok(greeting),
+                    None => {}
+                }
+            }
+            Next::Wait => return Ok(Greeting::Unnamed),
+            Next::TooLong => return Ok(Greeting::Refused(EndCause::TooLong)),
         }
     }
-    if reading.too_long {
-        Ok(Greeting::Refused(EndCause::TooLong))
-    } else {
-        Ok(Greeting::Unnamed)
-    }
+}
+
+/// Takes the next piece of a connection of which no frame has told yet whose it is: what all bytes so far say. The framer has
+/// what was not passed over of the bytes before.
+pub fn hear(
+    alloc: Global,
+    config: &Config,
+    framer: &mut Framer,
+    piece: &[u8],
+) -> Result<Greeting, NoMemory>
+    requires members { length config.now.members ≤ MAX_MEMBERS }
+    ensures said { IfOk result (λ greeting. (bytes : List ℕ) → SayTheSame config.now bytes framer.old.kept
+        → greeting ≡ greeting_of config.now (bytes ++ piece.now)) }
+    ensures on { result ≡ Ok Greeting.Unnamed → (bytes : List ℕ) → SayTheSame config.now bytes framer.old.kept
+        → SayTheSame config.now (bytes ++ piece.now) framer.new.kept }
+    ensures member { IfOk result (IsAmong (length config.now.members)) }
+{
+    framer.feed(piece)?;
+    next_greeting(alloc, config, framer)
 }

@@ -1,13 +1,23 @@
 //! One connection, from its first byte to its end.
-ghost use Rattle.std.specs.Prelude.{◌≡◌, ◌≢◌, ◌≤◌, ◌<◌, length, IfOk, IfErr, OnOk, Err};
+ghost use Rattle.std.specs.Prelude.{◌≡◌, ◌≢◌, ◌≤◌, ◌<◌, ◌++◌, Ok, Err, None, length, IfOk, IfErr, IfSome, OnOk};
 ghost use Rattle.venue_core.specs.Marks.{mark_of};
 ghost use Rattle.venue_words.specs.Causes.{Rose};
 ghost use Rattle.venue_words.specs.Conditions.{IsConfig};
 ghost use Rattle.venue_words.specs.Floors.{IsSetUpFor};
-ghost use Rattle.io_edge.specs.Links.{IsInside};
+ghost use Rattle.venue_words.specs.declared.limits.TheConstants.{MAX_MEMBERS};
+ghost use Rattle.io_edge.specs.Links.{IsInside, answer_of};
+ghost use Rattle.session_core.specs.declared.state.EndCause.{EndCause};
+ghost use Rattle.link_work.specs.Ends.{end_of};
+ghost use Rattle.serve_core.specs.Connections.{Connects, Visits, first_turn, seen_at, served_by};
+ghost use Rattle.serve_core.specs.Greeting.{IsAmong, SayTheSame, greeting_of};
+ghost use Rattle.serve_core.specs.Naming.{EndsUnnamed, Named, Stranger, bytes_in, edge};
+ghost use Rattle.serve_core.specs.Rounds.{Served, Serves};
+ghost use Rattle.serve_core.specs.Sessions.{Session, TurnEnds, ground};
+ghost use Rattle.serve_core.specs.Turning.{TookTurn};
 
-use crate::greeting::{Greeting, greeting_of};
+use crate::greeting::{Greeting, hear};
 use crate::turns::{on_piece, on_quiet};
+use fix_frames::Framer;
 use io_edge::{Clock, Link, Pulled};
 use line_work::source::Source;
 use link_work::{LinkEnd, ask};
@@ -20,9 +30,6 @@ use venue_words::{Config, Floor, NoMemory};
 
 /// How many bytes are pulled at once, at most.
 const PULL_BYTES: usize = 16_384;
-
-/// How many bytes may come before a frame that names the member.
-const MAX_GREETING_BYTES: usize = 65_536;
 
 /// A connection whose member is known: the moment at which he was, and all bytes that had come by then.
 #[derive(Drop)]
@@ -39,13 +46,70 @@ fn buffer_of(alloc: Global) -> Result<Vec<u8>, NoMemory>
     Ok(vec![in alloc; 0u8; PULL_BYTES]?)
 }
 
-/// Keeps a piece behind the bytes that came before.
-fn keep(bytes: &mut Vec<u8>, piece: &[u8]) -> Result<(), NoMemory> {
-    if piece.len() > MAX_GREETING_BYTES.saturating_sub(bytes.len()) {
-        return Err(NoMemory);
-    }
+/// Takes a piece behind the bytes that came before: what all of them say.
+fn hear_piece(
+    alloc: Global,
+    config: &Config,
+    framer: &mut Framer,
+    bytes: &mut Vec<u8>,
+    piece: &[u8],
+) -> Result<Greeting, NoMemory>
+    requires members { length config.now.members ≤ MAX_MEMBERS }
+    requires heard { SayTheSame config.now bytes.old.items framer.old.kept }
+    ensures bytes { OnOk result (bytes.new.items ≡ bytes.old.items ++ piece.now) }
+    ensures said { IfOk result (λ greeting. greeting ≡ greeting_of config.now (bytes.old.items ++ piece.now)) }
+    ensures on { result ≡ Ok Greeting.Unnamed → SayTheSame config.now (bytes.old.items ++ piece.now) framer.new.kept }
+    ensures member { IfOk result (IsAmong (length config.now.members)) }
+{
     bytes.extend_from_slice(piece)?;
-    Ok(())
+    hear(alloc, config, framer, piece)
+}
+
+/// The number of the member who is named, if one is.
+fn named_by(greeting: Greeting) -> Result<Option<u32>, LinkEnd>
+    ensures unnamed { result ≡ Ok None → greeting ≡ Greeting.Unnamed }
+    ensures named { IfOk result (λ said. IfSome said (λ member. greeting ≡ Greeting.Member member)) }
+    ensures refused { IfErr result (λ end. (cause : EndCause) × (greeting ≡ Greeting.Refused cause) × (end ≡ end_of cause)) }
+{
+    match greeting {
+        Greeting::Unnamed => Ok(None),
+        Greeting::Member(member) => Ok(Some(member)),
+        Greeting::Refused(cause) => Err(LinkEnd::from(cause)),
+    }
+}
+
+/// Takes a turn of a connection whose member is not known: his number, where what comes now names him.
+fn greet_turn(
+    alloc: Global,
+    config: &Config,
+    framer: &mut Framer,
+    bytes: &mut Vec<u8>,
+    pulled: Pulled,
+    buffer: &[u8],
+) -> Result<Option<u32>, LinkEnd>
+    requires members { length config.now.members ≤ MAX_MEMBERS }
+    requires inside { IsInside pulled buffer.now }
+    requires heard { SayTheSame config.now bytes.old.items framer.old.kept }
+    requires unnamed { greeting_of config.now bytes.old.items ≡ Greeting.Unnamed }
+    ensures bytes { OnOk result (bytes.new.items ≡ bytes.old.items ++ bytes_in (answer_of pulled buffer.now)) }
+    ensures on { result ≡ Ok None → SayTheSame config.now bytes.new.items framer.new.kept }
+    ensures unnamed { result ≡ Ok None → greeting_of config.now bytes.new.items ≡ Greeting.Unnamed }
+    ensures named { IfOk result (λ said. IfSome said (λ member. greeting_of config.now bytes.new.items ≡ Greeting.Member member)) }
+    ensures member { IfOk result (λ said. IfSome said (λ member. member < length config.now.members)) }
+    ensures ends { IfErr result (λ end. EndsUnnamed config.now (bytes.old.items ++ bytes_in (answer_of pulled buffer.now))
+        (answer_of pulled buffer.now) end) }
+    ensures ended { pulled ≡ Pulled.End → result ≡ Err LinkEnd.PeerEnd }
+    ensures others { (result ≡ Err LinkEnd.PeerEnd → pulled ≡ Pulled.End)
+        × (result ≢ Err LinkEnd.InUse) × (result ≢ Err LinkEnd.LinkFault) }
+{
+    match pulled {
+        Pulled::Bytes(count) => match hear_piece(alloc, config, framer, bytes, &buffer[..count]) {
+            Ok(greeting) => named_by(greeting),
+            Err(_) => Err(LinkEnd::NoMemory),
+        },
+        Pulled::Quiet => Ok(None),
+        Pulled::End => Err(LinkEnd::PeerEnd),
+    }
 }
 
 /// Takes turns until a frame names the member.
@@ -59,6 +123,10 @@ fn greet<R: Wait, K: Link, C: Clock>(
 ) -> Result<Greeted, LinkEnd>
     requires config { IsConfig config.now }
     requires buffer { 0 < length buffer.old }
+    ensures named { IfOk result (λ greeted. Named config.now greeted.member greeted.moment greeted.bytes.items
+        (edge (K.told link.old) (C.told clock.old)) (edge (K.told link.new) (C.told clock.new))) }
+    ensures stranger { IfErr result (λ end. Stranger config.now end
+        (edge (K.told link.old) (C.told clock.old)) (edge (K.told link.new) (C.told clock.new))) }
     ensures member { IfOk result (λ greeted. greeted.member < length config.now.members) }
     ensures in_use { result ≢ Err LinkEnd.InUse }
     ensures later { K.faults link.old ≤ K.faults link.new }
@@ -68,28 +136,23 @@ fn greet<R: Wait, K: Link, C: Clock>(
     ensures goes_on { result ≢ Err LinkEnd.PeerEnd → K.ends link.new ≡ K.ends link.old }
 {
     let mut bytes = Vec::new(alloc);
+    let mut framer = Framer::new(alloc);
     'turns: for _ in rt.forever() {
         let asked = match ask(link, clock, buffer) {
             Ok(asked) => asked,
             Err(_) => return Err(LinkEnd::LinkFault),
         };
-        match asked.pulled {
-            Pulled::Bytes(count) => {
-                keep(&mut bytes, &buffer[..count])?;
-                match greeting_of(alloc, config, bytes.as_slice())? {
-                    Greeting::Unnamed => {}
-                    Greeting::Member(member) => {
-                        return Ok(Greeted {
-                            member,
-                            moment: asked.moment,
-                            bytes,
-                        });
-                    }
-                    Greeting::Refused(cause) => return Err(LinkEnd::from(cause)),
-                }
+        let moment = asked.moment;
+        match greet_turn(alloc, config, &mut framer, &mut bytes, asked.pulled, buffer) {
+            Ok(None) => {}
+            Ok(Some(member)) => {
+                return Ok(Greeted {
+                    member,
+                    moment,
+                    bytes,
+                });
             }
-            Pulled::Quiet => {}
-            Pulled::End => return Err(LinkEnd::PeerEnd),
+            Err(end) => return Err(end),
         }
     }
     unreachable!()
@@ -109,6 +172,12 @@ fn take_turn<F: Floor, K: Link>(
     requires own { desk.old.member ≡ source.member }
     requires member { source.member < length source.config.now.members }
     requires inside { IsInside pulled buffer.now }
+    ensures took { OnOk result ((before : Served) → Serves desk.old before → TookTurn F.at source.entry.config.now
+        source.entry.feed (record { answer = answer_of pulled buffer.now; moment = source.entry.moment }) before desk.new
+        floor.old floor.new (K.told link.old) (K.told link.new)) }
+    ensures ends { IfErr result (λ end. (before : Served) → Serves desk.old before → TurnEnds F.at (F.mark floor.old)
+        source.entry.config.now source.entry.feed (record { answer = answer_of pulled buffer.now; moment = source.entry.moment })
+        before end desk.new floor.old floor.new (K.told link.old) (K.told link.new)) }
     ensures mark { F.mark floor.new ≡ F.mark floor.old }
     ensures member { desk.new.member ≡ desk.old.member }
     ensures counted { K.ends link.new ≡ K.ends link.old }
@@ -139,6 +208,9 @@ fn take_turns<R: Wait, F: Floor, K: Link, C: Clock>(
     requires own { desk.old.member ≡ source.member }
     requires member { source.member < length source.config.now.members }
     requires buffer { 0 < length buffer.old }
+    ensures session { (start : Served) → Serves desk.old start → Session F.at (F.mark floor.old)
+        source.entry.config.now source.entry.feed start result desk.new
+        (ground floor.old (K.told link.old) (C.told clock.old)) (ground floor.new (K.told link.new) (C.told clock.new)) }
     ensures mark { F.mark floor.new ≡ F.mark floor.old }
     ensures member { desk.new.member ≡ desk.old.member }
     ensures in_use { result ≢ LinkEnd.InUse }
@@ -181,6 +253,9 @@ fn serve_member<R: Wait, F: Floor, K: Link, C: Clock>(
     requires own { desk.old.member ≡ source.member }
     requires member { source.member < length source.config.now.members }
     requires buffer { 0 < length buffer.old }
+    ensures visits { Visits F.at (F.mark floor.old) source.entry.config.now source.entry.feed
+        (first_turn first.now source.entry.moment) (served_by desk.old) result desk.new
+        (ground floor.old (K.told link.old) (C.told clock.old)) (ground floor.new (K.told link.new) (C.told clock.new)) }
     ensures mark { F.mark floor.new ≡ F.mark floor.old }
     ensures member { desk.new.member ≡ desk.old.member }
     ensures in_use { result ≢ LinkEnd.InUse }
@@ -210,6 +285,12 @@ pub fn serve_over<R: Wait, F: Floor, K: Link, C: Clock, D: Desks>(
     requires config { IsConfig config.now }
     requires setup { IsSetUpFor config.now (F.mark floor.old).setup }
     requires desks { D.members desks.old ≡ length config.now.members }
+
+    // How the connection ended, and all that it did by then.
+    ensures connection { Connects F.at (F.mark floor.old) config.now result
+        (ground floor.old (K.told link.old) (C.told clock.old)) (ground floor.new (K.told link.new) (C.told clock.new))
+        (D.told desks.old) (D.told desks.new) }
+
     ensures mark { F.mark floor.new ≡ F.mark floor.old }
 
     // The link failed only where its count of faults rose, and the peer ended exactly where its count of ends did.
@@ -267,6 +348,13 @@ pub fn serve_link<R: Wait, K: Link, C: Clock, D: Desks>(
     requires config { IsConfig config.now }
     requires setup { IsSetUpFor config.now (mark_of floor.old.venue.now floor.old.seats).setup }
     requires desks { D.members desks.old ≡ length config.now.members }
+
+    // How the connection ended, and all that it did by then; the floor shows of a symbol what its seat has seen.
+    ensures connection { Connects (λ seated symbol. seen_at seated.seats symbol)
+        (mark_of floor.old.venue.now floor.old.seats) config.now result
+        (ground floor.old (K.told link.old) (C.told clock.old)) (ground floor.new (K.told link.new) (C.told clock.new))
+        (D.told desks.old) (D.told desks.new) }
+
     ensures mark { mark_of floor.new.venue.now floor.new.seats ≡ mark_of floor.old.venue.now floor.old.seats }
 
     // The link failed only where its count of faults rose, and the peer ended exactly where its count of ends did.

@@ -1,6 +1,6 @@
 //! How a run ended.
-ghost use Rattle.std.specs.Prelude.{◌≡◌};
-ghost use Rattle.serve_core.specs.Statuses.{exit_code};
+ghost use Rattle.std.specs.Prelude.{◌≡◌, ◌≢◌};
+ghost use Rattle.serve_core.specs.Statuses.{exit_code, exit_of_quotes, status_of_setup, told_of, told_of_quotes};
 
 use crate::quotes::QuoteEnd;
 use crate::setup::SetupFault;
@@ -48,7 +48,9 @@ pub fn exit_code(status: ServeStatus<'_>) -> u8
 }
 
 /// The status of a run that does not begin.
-pub fn status_of_setup(fault: SetupFault) -> ServeStatus<'static> {
+pub fn status_of_setup(fault: SetupFault) -> ServeStatus<'static>
+    ensures { result ≡ status_of_setup fault }
+{
     match fault {
         SetupFault::BadWords => ServeStatus::BadWords,
         SetupFault::BadLine { line, cause } => ServeStatus::BadLine { line, cause },
@@ -59,7 +61,12 @@ pub fn status_of_setup(fault: SetupFault) -> ServeStatus<'static> {
 }
 
 /// The status of a run whose quotes ended so, where nothing else went wrong. The symbols' names are the config's.
-pub fn status_of_quotes<'a>(end: QuoteEnd, symbols: &'a [Bytes]) -> ServeStatus<'a> {
+pub fn status_of_quotes<'a>(end: QuoteEnd, symbols: &'a [Bytes]) -> ServeStatus<'a>
+    ensures exit { exit_code result ≡ exit_of_quotes end }
+    ensures told { told_of result ≡ told_of_quotes symbols.now end }
+    ensures done { result ≡ ServeStatus.Done → end ≡ QuoteEnd.Done }
+    ensures fault { result ≢ ServeStatus.WriteFault }
+{
     match end {
         QuoteEnd::Done => ServeStatus::Done,
         QuoteEnd::BadLine { line, cause } => ServeStatus::BadLine { line, cause },

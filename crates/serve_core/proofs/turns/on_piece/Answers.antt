@@ -1,4 +1,4 @@
-use Rattle.std.proofs.Common.{◌≡◌, ℕ, ℤ, List, Option, Err, sym, ◌∙◌, ap, subst, rules}
+use Rattle.std.proofs.Common.{◌≡◌, ℕ, List, Option, Err, sym, subst, rules}
 use Rattle.venue_words.specs.declared.report.Report.{Report}
 use Rattle.io_edge.specs.Links.{Told}
 use Rattle.io_edge.specs.Links.Answer.{piece}

@@ -1,4 +1,4 @@
-use Rattle.std.proofs.Common.{◌≡◌, ℕ, ℤ, List, take, sym, ◌∙◌, ap, subst, w64, to_z, of_z, rules}
+use Rattle.std.proofs.Common.{◌≡◌, ℕ, ℤ, List, take, ◌∙◌, ap, subst, w64, to_z, of_z, rules}
 use Rattle.venue_words.specs.declared.report.Report.{Report}
 use Rattle.io_edge.specs.Links.{Tells, WasPut}
 use Rattle.session_core.specs.Machine.{Outcome}

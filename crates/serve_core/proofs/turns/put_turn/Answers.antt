@@ -1,4 +1,4 @@
-use Rattle.std.proofs.Common.{◌≡◌, List, ℕ, Some, take, sym, ◌∙◌, ap, subst, inl, inr}
+use Rattle.std.proofs.Common.{◌≡◌, List, ℕ, Some, None, take, sym, ◌∙◌, ap, subst, inl}
 use Rattle.io_edge.specs.Links.{Tells, WasPut}
 use Rattle.session_core.specs.Machine.{Machine}
 use Rattle.session_core.specs.State.{cause_of}
@@ -34,7 +34,9 @@ returns-in-None-clause-turn g c mid x =
     let put =
     subst (λ (f : List (List ℕ)). Tells (WasPut (joined f)) (g.K.Link.told c.args.link.now) (g.K.Link.told c.put_all.new.link))
     c.as_slice.ensures c.in-Ok.ensures.bytes in
+    let on : cause_of mid.connection.session.state.phase ≡ None
+    = ap (λ (s : Machine). cause_of s.state.phase) (sym x.desk_is.session) ∙ sym c.requires.ended ∙ c.in-None.ensures in
     turn_was c.args.source.config.now c.args.source.moment c.args.turn.now.replies
     (λ symbol. (g.F.Floor.at c.put_reports.new.floor symbol).reports) mid c.put_reports.new.desk
     (g.K.Link.told c.args.link.now) (g.K.Link.told c.put_all.new.link) (g.K.Link.told c.put_reports.new.link)
-    c.put_reports.result put (c.put_reports.ensures.reports mid x)
+    c.put_reports.result on put (c.put_reports.ensures.reports mid x)

@@ -1,4 +1,4 @@
-use Rattle.std.proofs.Common.{◌≡◌, ℤ, ℕ, List, ◌++◌, sym, ◌∙◌, ap, subst, w64, to_z, of_z, rules}
+use Rattle.std.proofs.Common.{◌≡◌, ℤ, ◌++◌, ◌∙◌, ap, subst, w64, to_z, of_z, rules}
 use Rattle.fix_frames.specs.Reading.{reading_of}
 use Rattle.session_core.specs.declared.turn.Turn.{Turn}
 use Rattle.member_gate.specs.Answering.{Work}

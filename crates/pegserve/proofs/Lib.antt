@@ -1,0 +1,4 @@
+pub mod Closed
+pub mod Listings
+pub mod Lists
+pub mod Seats

@@ -1,0 +1,5 @@
+//! Trials of sessions over links: worked examples over links in memory, and the server over loopback. All of it is tests.
+#![tactic(auto)]
+
+#[cfg(test)]
+mod tests;

@@ -1,0 +1,131 @@
+//! Worked examples over links in memory.
+ghost use Rattle.std.specs.Prelude.{◌≡◌, ◌<◌, length, IfOk};
+ghost use Rattle.venue_words.specs.Conditions.{IsConfig};
+
+use fix_write::wrap;
+use io_edge::{LinkItem, MemClock, MemLink, MemShelf};
+use link_work::LinkEnd;
+use member_gate::{DeskTable, Desks, desks_of};
+use script_text::read_header;
+use serve_core::{QuoteEnd, serve_link, serve_quotes};
+use std::alloc::Global;
+use std::sync::Wait;
+use std::test::Fail;
+use symbol_book::HashSeed;
+use venue_core::{Seated, make};
+use venue_words::{Config, NoMemory};
+
+const CONFIG: &[u8] =
+    b"PEGV 1\nMEMBER A\nMEMBER B\nMARKET N\nSYMBOL X 100\nBEGIN 20240102-14:30:00.000\n";
+
+const LOGON: &[u8] =
+    b"35=A\x0149=A\x0156=PEGV\x0134=1\x0152=20240102-14:30:00\x0198=0\x01108=30\x011137=9\x01";
+
+const ORDER: &[u8] =
+    b"35=D\x0149=A\x0156=PEGV\x0134=2\x0152=20240102-14:30:00.123456\x011=ACC7\x0111=20240102-000017\x0118=M\x0121=1\x0155=X\x0154=1\x0138=2500\x0140=P\x0144=150.25\x0159=0\x0160=20240102-14:30:00.123456\x01110=500\x01211=0\x01836=0\x011094=2\x011822=1\x01453=2\x01448=FIRM\x01447=D\x01452=1\x01448=DESK\x01447=D\x01452=11\x01";
+
+/// The moment of the config, in milliseconds since 1970-01-01 00:00 UTC.
+const START: i64 = 1_704_205_800_000;
+
+/// What the two frames are answered with.
+const ANSWERS: &[u8] =
+    b"8=FIXT.1.1\x019=67\x0135=A\x0149=PEGV\x0156=A\x0134=1\x0152=20240102-14:30:00.000\x0198=0\x01108=30\x011137=9\x0110=234\x018=FIXT.1.1\x019=197\x0135=8\x0149=PEGV\x0156=A\x0134=2\x0152=20240102-14:30:00.000\x0137=X-2\x0111=20240102-000017\x0117=X-2-1\x01150=0\x0139=0\x0155=X\x0154=1\x0138=2500\x0140=P\x0144=150.2500\x01151=2500\x0114=0\x016=0.0000\x0160=20240102-14:30:00.000\x01839=150.1200\x019701=2\x0110=";
+
+/// A peer who sends the logon and the order, and then no more.
+fn broker(alloc: Global, fails: Vec<u64>) -> Result<MemLink, NoMemory> {
+    let mut items = Vec::new(alloc);
+    items.push(LinkItem::Piece(wrap(alloc, LOGON)?))?;
+    items.push(LinkItem::Piece(wrap(alloc, ORDER)?))?;
+    items.push(LinkItem::End)?;
+    Ok(MemLink::new(alloc, items, fails))
+}
+
+/// The config of all trials.
+fn config_of(alloc: Global) -> Result<Config, NoMemory>
+    ensures { IfOk result IsConfig }
+{
+    match read_header(alloc, CONFIG) {
+        Ok((config, _)) => Ok(config),
+        Err(_) => Err(NoMemory),
+    }
+}
+
+/// Serves one connection over a venue that has taken the quote 150.10 to 150.14, with the desks of all members, or without A's.
+fn served<R: Wait>(
+    rt: &R,
+    alloc: Global,
+    link: &mut MemLink,
+    is_there: bool,
+) -> Result<(LinkEnd, bool), NoMemory> {
+    let config = config_of(alloc)?;
+    let (venue, seats) = make(alloc, HashSeed::fixed(), &config)?;
+    let mut floor = Seated {
+        rt,
+        venue: &venue,
+        seats,
+    };
+    let mut files = Vec::new(alloc);
+    files.push((
+        String::from_str(alloc, "q")?,
+        Vec::from_slice(alloc, b"Q X N 150.10 150.14\n")?,
+    ))?;
+    let mut shelf = MemShelf::new(files, 7, Vec::new(alloc));
+    let mut clock = MemClock::new(vec![in alloc; START]?);
+    if serve_quotes(alloc, &config, &mut floor, &mut shelf, "q", &mut clock) != QuoteEnd::Done {
+        return Err(NoMemory);
+    }
+    let mut desks = DeskTable::new(alloc, desks_of(alloc, &config)?)?;
+    if !is_there && desks.members() > 0 {
+        let _ = desks.take(0).is_some();
+    }
+    let end = serve_link(alloc, &config, &mut floor, &mut desks, link, &mut clock);
+    let is_back = desks.members() > 0 && desks.take(0).is_some();
+    Ok((end, is_back))
+}
+
+#[test]
+fn a_brokers_order_is_acknowledged(rt: HostRuntime) -> Result<(), Fail> {
+    let alloc = rt.alloc();
+    let mut link = broker(alloc, Vec::new(alloc))?;
+    let (end, is_back) = served(&rt, alloc, &mut link, true)?;
+    assert_eq!(rt; end, LinkEnd::PeerEnd);
+    assert!(rt; is_back);
+    assert!(rt; link.bytes().starts_with(ANSWERS));
+    Ok(())
+}
+
+#[test]
+fn a_failed_put_ends_the_connection(rt: HostRuntime) -> Result<(), Fail> {
+    let alloc = rt.alloc();
+    let mut link = broker(alloc, vec![in alloc; 2]?)?;
+    let (end, is_back) = served(&rt, alloc, &mut link, true)?;
+    assert_eq!(rt; end, LinkEnd::LinkFault);
+    assert!(rt; is_back);
+    assert!(rt; link.bytes().is_empty());
+    Ok(())
+}
+
+#[test]
+fn each_failing_call_leaves_a_prefix(rt: HostRuntime) -> Result<(), Fail> {
+    let alloc = rt.alloc();
+    for number in 1..6u64 {
+        let mut link = broker(alloc, vec![in alloc; number]?)?;
+        let (end, is_back) = served(&rt, alloc, &mut link, true)?;
+        assert_eq!(rt; end, LinkEnd::LinkFault, "{number}");
+        assert!(rt; is_back);
+        let put = link.bytes();
+        assert!(rt; put.len() <= 90 + 221);
+        assert!(rt; ANSWERS.starts_with(&put[..put.len().min(ANSWERS.len())]));
+    }
+    Ok(())
+}
+
+#[test]
+fn a_second_connection_is_refused(rt: HostRuntime) -> Result<(), Fail> {
+    let alloc = rt.alloc();
+    let mut link = broker(alloc, Vec::new(alloc))?;
+    let (end, _) = served(&rt, alloc, &mut link, false)?;
+    assert_eq!(rt; end, LinkEnd::InUse);
+    assert!(rt; link.bytes().is_empty());
+    Ok(())
+}
