@@ -1,0 +1,91 @@
+//! What the frames of a drop session's stream make of it.
+ghost use Rattle.std.specs.Prelude.{◌≡◌, ◌⊎◌, ◌++◌, ◌∷◌, [], length, IfOk, OnOk, OnErr, OnSome};
+ghost use Rattle.fix_frames.specs.Reading.{reading_of};
+ghost use Rattle.session_core.specs.Machine.{IsUp, IsOver};
+ghost use Rattle.session_stream.specs.Work.{answered, work_of_reading};
+ghost use Rattle.drop_copy.specs.Answering.{refuses};
+ghost use Rattle.drop_copy.specs.Desks.{AreUnread};
+
+use fix_frames::Framer;
+use member_gate::business::{BUSINESS_REJECT, business_body};
+use session_core::lookup::text_in;
+use session_core::tags::MSG_TYPE;
+use session_core::{Request, Session, Turn};
+use session_stream::{Heard, hear};
+use std::alloc::Global;
+use venue_words::{Bytes, NoMemory};
+
+/// Answers a message that the session handed out: it takes none.
+fn refuse(
+    alloc: Global,
+    session: &mut Session,
+    request: &Request,
+    moment: i64,
+) -> Result<Bytes, NoMemory>
+    requires { IsUp session.old }
+    ensures session { OnOk result (session.new ≡ (refuses moment session.old request.now).machine) }
+    ensures reply { IfOk result (λ frame. frame ∷ [] ≡ (refuses moment session.old request.now).turn.replies) }
+    ensures err { OnErr result (session.new ≡ session.old) }
+{
+    let kind = text_in(MSG_TYPE, request.fields.as_slice());
+    let body = business_body(alloc, request.number, kind)?;
+    session.send(BUSINESS_REJECT, &body, moment)
+}
+
+/// Adds what a turn sends, and the answer to the message that it hands out, if any. After a refusal some of them may be added.
+fn work_turn(
+    alloc: Global,
+    session: &mut Session,
+    turn: Turn,
+    moment: i64,
+    replies: &mut Vec<Bytes>,
+) -> Result<(), NoMemory>
+    requires { OnSome turn.request (IsUp session.old) }
+    ensures session { OnOk result (session.new ≡ (answered (refuses moment) session.old turn.request).session) }
+    ensures replies { OnOk result (replies.new.items
+        ≡ replies.old.items ++ (turn.replies ++ (answered (refuses moment) session.old turn.request).replies)) }
+{
+    let mut own = turn.replies.into_vec();
+    replies.append(&mut own)?;
+    let Some(request) = turn.request else {
+        return Ok(());
+    };
+    // Room is taken first, so that no answer is lost that has its number.
+    replies.reserve(1)?;
+    let reply = refuse(alloc, session, &request, moment)?;
+    replies.push_reserved(reply);
+    Ok(())
+}
+
+/// Adds what the turn sends that ends a connection.
+fn work_last(turn: Turn, replies: &mut Vec<Bytes>) -> Result<(), NoMemory>
+    ensures { OnOk result (replies.new.items ≡ replies.old.items ++ turn.replies) }
+{
+    let mut own = turn.replies.into_vec();
+    replies.append(&mut own)?;
+    Ok(())
+}
+
+/// Works all frames that a stream has now: what the session sends is added. After a refusal some of it may be.
+pub fn work_frames(
+    alloc: Global,
+    framer: &mut Framer,
+    session: &mut Session,
+    moment: i64,
+    replies: &mut Vec<Bytes>,
+) -> Result<(), NoMemory>
+    ensures session { OnOk result (session.new
+        ≡ (work_of_reading (refuses moment) moment session.old (reading_of framer.old.kept)).session) }
+    ensures replies { OnOk result (replies.new.items ≡ replies.old.items
+        ++ (work_of_reading (refuses moment) moment session.old (reading_of framer.old.kept)).replies) }
+    ensures unread { OnOk result (IsOver session.new ⊎ AreUnread framer.old.kept framer.new.kept) }
+{
+    'frames: loop {
+        let turn = match hear(framer, session, moment)? {
+            Heard::Frame(turn) => turn,
+            Heard::TooLong(turn) => return work_last(turn, replies),
+            Heard::Wait => return Ok(()),
+        };
+        work_turn(alloc, session, turn, moment, replies)?;
+    }
+}

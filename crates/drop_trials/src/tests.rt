@@ -1,0 +1,152 @@
+//! What all trials share: a config, a trade of its two members, and frames.
+ghost use Rattle.std.specs.Prelude.{◌≡◌, ◌<◌, ◌≤◌, true, length, IfOk};
+ghost use Rattle.member_gate.specs.PlainFloors.{example_config};
+ghost use Rattle.venue_words.specs.Conditions.{IsConfig, fits_limits};
+ghost use Rattle.venue_words.specs.Floors.{is_configured};
+
+mod connections;
+mod desks;
+mod plans;
+
+use fix_write::wrap;
+use std::alloc::{AllocError, Global};
+use std::sync::ledger::{Blank, Ledger};
+use venue_words::{Bytes, Command, Config, Floor, Items, NoMemory, Steps, Terms};
+
+/// The moment of all trials: 2024-01-02 14:30.
+const START: i64 = 1_704_205_800_000;
+
+const LOGON: &[u8] = b"35=A|49=DC|56=PEGV|34=1|52=20240102-14:30:00|98=0|108=30|1137=9|";
+
+const LOGON_ANSWER: &[u8] = b"35=A|49=PEGV|56=DC|34=1|52=20240102-14:30:00.000|98=0|108=30|1137=9|";
+
+/// The copies of A's two reports.
+const COPIES: [&[u8]; 2] = [
+    b"35=8|49=PEGV|56=DC|34=2|52=20240102-14:30:00.000|37=X-2|11=a1|17=X-2-1|150=0|39=0|55=X|54=1|38=100|40=P|151=100|14=0|6=0.0000|60=20240102-14:30:00.000|839=10.0050|9701=2|9703=A|",
+    b"35=8|49=PEGV|56=DC|34=3|52=20240102-14:30:00.000|37=X-2|11=a1|17=X-3-3|150=F|39=2|55=X|54=1|38=100|40=P|32=100|31=10.0050|151=0|14=100|6=10.0050|60=20240102-14:30:00.000|9703=A|",
+];
+
+/// Both are asked for again.
+const RESEND: &[u8] = b"35=2|49=DC|56=PEGV|34=2|52=20240102-14:30:00|7=2|16=0|";
+
+const COPIES_AGAIN: [&[u8]; 2] = [
+    b"35=8|49=PEGV|56=DC|34=2|52=20240102-14:30:00.000|43=Y|122=20240102-14:30:00.000|37=X-2|11=a1|17=X-2-1|150=0|39=0|55=X|54=1|38=100|40=P|151=100|14=0|6=0.0000|60=20240102-14:30:00.000|839=10.0050|9701=2|9703=A|",
+    b"35=8|49=PEGV|56=DC|34=3|52=20240102-14:30:00.000|43=Y|122=20240102-14:30:00.000|37=X-2|11=a1|17=X-3-3|150=F|39=2|55=X|54=1|38=100|40=P|32=100|31=10.0050|151=0|14=100|6=10.0050|60=20240102-14:30:00.000|9703=A|",
+];
+
+/// An order, which a drop session does not take.
+const ORDER: &[u8] =
+    b"35=D|49=DC|56=PEGV|34=3|52=20240102-14:30:00|11=d1|55=X|54=1|38=100|40=P|1094=2|60=20240102-14:30:00|";
+
+const ORDER_ANSWER: &[u8] = b"35=j|49=PEGV|56=DC|34=4|52=20240102-14:30:00.000|45=3|372=D|380=3|";
+
+/// Appends the frames of texts in which `|` stands for the end of a field.
+fn push_frames(alloc: Global, stream: &mut Vec<u8>, texts: &[&[u8]]) -> Result<(), NoMemory> {
+    for text in texts {
+        let mut content = Vec::with_capacity(alloc, text.len())?;
+        for byte in *text {
+            content.push(if *byte == b'|' { 1 } else { *byte })?;
+        }
+        stream.extend_from_slice(&wrap(alloc, &content)?)?;
+    }
+    Ok(())
+}
+
+/// The frames of these texts, one behind the other.
+fn frames_of(alloc: Global, texts: &[&[u8]]) -> Result<Vec<u8>, NoMemory> {
+    let mut stream = Vec::new(alloc);
+    push_frames(alloc, &mut stream, texts)?;
+    Ok(stream)
+}
+
+/// Members A and B, market N, and symbols X and Y.
+fn example(alloc: Global) -> Result<Config, AllocError>
+    ensures { IfOk result (λ config. config ≡ example_config) }
+{
+    let a = Bytes::copy_of(alloc, b"A")?;
+    let b = Bytes::copy_of(alloc, b"B")?;
+    Ok(Config {
+        members: Items(vec![in alloc; a, b]?),
+        markets: Items(vec![in alloc; Bytes::copy_of(alloc, b"N")?]?),
+        symbols: Items(vec![in alloc; Bytes::copy_of(alloc, b"X")?, Bytes::copy_of(alloc, b"Y")?]?),
+        limits: Items(vec![in alloc; 4, 4]?),
+        ticks: Items(vec![in alloc; 2, 2]?),
+        begin: 0,
+    })
+}
+
+/// The same, as every call takes it.
+fn config_of(alloc: Global) -> Result<Config, AllocError>
+    ensures valid { IfOk result IsConfig }
+    ensures example { IfOk result (λ config. config ≡ example_config) }
+{
+    match example(alloc) {
+        Ok(config) => Ok(config),
+        Err(refused) => Err(refused),
+    }
+}
+
+/// An order for 100 shares at the middle of the market.
+fn middle_order(side: u8) -> Terms {
+    Terms {
+        side,
+        quantity: 10_000_000_000,
+        kind: b'P',
+        price: None,
+        force: None,
+        minimum: None,
+        method: None,
+        peg: Some(2),
+        offset: None,
+        offset_kind: None,
+        moves: None,
+        round: None,
+    }
+}
+
+/// Submits a command for X.
+fn submit<F: Floor, L: Ledger>(
+    floor: &mut F,
+    feed: u32,
+    command: &Command,
+    steps: &mut Steps<L>,
+) -> Result<(), NoMemory>
+    requires symbol { 0 < length (F.mark floor.old).setup.limits }
+    requires configured { is_configured (F.mark floor.old).setup command.now ≡ true }
+    requires limits { fits_limits command.now ≡ true }
+    ensures mark { F.mark floor.new ≡ F.mark floor.old }
+{
+    match floor.submit(0, feed, START, command, steps) {
+        Ok(_) => Ok(()),
+        Err(_) => Err(NoMemory),
+    }
+}
+
+/// A quote of X, and an order of A that trades with one of B.
+fn trade<F: Floor, L: Ledger>(alloc: Global, floor: &mut F, blank: Blank) -> Result<(), NoMemory>
+    requires symbol { 0 < length (F.mark floor.old).setup.limits }
+    requires members { 2 ≤ (F.mark floor.old).setup.members }
+    requires markets { 1 ≤ (F.mark floor.old).setup.markets }
+    requires blank { (blank.name ≡ L.name) × (blank.parts ≡ L.parts) × (L.parts ≡ 1) }
+    ensures mark { F.mark floor.new ≡ F.mark floor.old }
+{
+    let mut steps: Steps<L> = Steps::start(blank);
+    let quote = Command::Quote {
+        market: 0,
+        bid: Some(1000),
+        offer: Some(1001),
+    };
+    submit(floor, 3, &quote, &mut steps)?;
+    let buys = Command::New {
+        member: 0,
+        id: Bytes::copy_of(alloc, b"a1")?,
+        terms: middle_order(b'1'),
+    };
+    submit(floor, 1, &buys, &mut steps)?;
+    let sells = Command::New {
+        member: 1,
+        id: Bytes::copy_of(alloc, b"b1")?,
+        terms: middle_order(b'2'),
+    };
+    submit(floor, 2, &sells, &mut steps)
+}
