@@ -1,0 +1,5 @@
+pub mod Plain
+pub mod Reading
+pub mod Snapshots
+pub mod Whole
+pub mod Written

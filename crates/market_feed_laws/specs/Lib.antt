@@ -1,0 +1,3 @@
+pub mod BestQuotes
+pub mod Complete
+pub mod ReadBack
