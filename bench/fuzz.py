@@ -3,7 +3,8 @@
 
 It takes worked scripts, mixed scripts and recorded market data sessions, and changes bytes, words and lines of them. A run fails where a program ends
 by a signal, takes more than ten seconds or 2 GB, or ends with a status that it doesn't have. Of the programs that are built, those that have
-to agree are compared: pegday puts what pegreplay puts. What differs is kept under the name that is printed.
+to agree are compared: pegday puts what pegreplay puts; pegvenue, given a script's header as its config and its body as its one feed, lists each report
+that pegreplay sent, in the same order. What differs is kept under the name that is printed.
 """
 import collections
 import random
@@ -16,7 +17,7 @@ import time
 from pathlib import Path
 
 TOP = Path(__file__).resolve().parent.parent
-STATUSES = {"pegreplay": {0, 2, 3, 4, 5, 6, 7}, "pegday": {0, 2, 3, 4, 5, 6, 7, 10, 11, 12},
+STATUSES = {"pegreplay": {0, 2, 3, 4, 5, 6, 7}, "pegvenue": {0, 2, 3, 4, 5, 6, 7, 8}, "pegday": {0, 2, 3, 4, 5, 6, 7, 10, 11, 12},
             "pegmarket": {0, 2, 3, 4, 5, 6, 7, 9}}
 
 
@@ -67,6 +68,33 @@ def changed(chance, text):
     return b"\n".join(lines)
 
 
+def sent_reports(transcript):
+    """By member, the bodies of reports that were sent for the first time."""
+    sent = collections.defaultdict(list)
+    for line in transcript.splitlines():
+        member, frame = line.split(b" ", 1)
+        if (b"|35=8|" in frame or b"|35=9|" in frame) and b"|43=Y|122=" not in frame and b"|17=0-" not in frame:
+            sent[member].append(frame[frame.index(b"|37=") + 1:frame.rindex(b"10=")])
+    return sent
+
+
+def is_listed(sent, listing):
+    """Whether each member's reports stand in a listing, by symbol in their order."""
+    listed = collections.defaultdict(lambda: collections.defaultdict(list))
+    for line in listing.splitlines():
+        if line.startswith(b"R "):
+            _, symbol, _, _, member, _, body = line.split(b" ", 6)
+            listed[member][symbol].append(body)
+    for member, bodies in sent.items():
+        place = collections.Counter()
+        for body in bodies:
+            fits = [symbol for symbol, own in listed[member].items() if own[place[symbol]:place[symbol] + 1] == [body]]
+            if not fits:
+                return False
+            place[fits[0]] += 1
+    return True
+
+
 def try_script(text, folder):
     """What is wrong with the runs of a script, if anything."""
     script, journal = folder / "script", folder / "journal"
@@ -79,17 +107,33 @@ def try_script(text, folder):
         day = run("pegday", script, journal)
         if (day[0], day[2]) != (out, status):
             return f"pegday: {day[2]} and not {status}, {day[1][-200:]!r}"
-    return None
+    begin = text.find(b"\nBEGIN ")
+    end = text.find(b"\n", begin + 1) + 1
+    if begin < 0 or end == 0 or not is_built("pegvenue"):
+        return None
+    config, feed = folder / "config", folder / "feed"
+    config.write_bytes(text[:end])
+    feed.write_bytes(text[end:])
+    listing, told, venue = run("pegvenue", config, feed)
+    if venue is None:
+        return f"pegvenue: {told[-200:]!r}"
+    if (status == 0) != (venue == 0):
+        return f"pegvenue: {venue} and not {status}, {told[-200:]!r}"
+    return None if is_listed(sent_reports(out), listing) or venue else "pegvenue lists other reports"
 
 
 def try_market(text, folder):
     config, feed = folder / "config", folder / "input"
     config.write_bytes(b"PEGV 1\nMARKET N\nMARKET P\nSYMBOL X 1000\nBEGIN 20240102-14:30:00.000\n")
     feed.write_bytes(text)
-    _, told, status = run("pegmarket", config, "SIP", feed)
+    out, told, status = run("pegmarket", config, "SIP", feed)
     if status is None:
         return f"pegmarket: {told[-200:]!r}"
-    return None
+    if not is_built("pegvenue"):
+        return None
+    feed.write_bytes(out)
+    _, told, status = run("pegvenue", config, feed)
+    return None if status in (0, 8) else f"pegvenue on what pegmarket put: {status}, {told[-200:]!r}"
 
 
 def main():
