@@ -4,6 +4,3 @@
 pub mod markets;
 
 pub use markets::Markets;
-
-#[cfg(test)]
-mod tests;

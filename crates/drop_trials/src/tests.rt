@@ -1,6 +1,6 @@
 //! What all trials share: a config, a trade of its two members, and frames.
 ghost use Rattle.std.specs.Prelude.{◌≡◌, ◌<◌, ◌≤◌, true, length, IfOk};
-ghost use Rattle.member_gate.specs.PlainFloors.{example_config};
+ghost use Rattle.desk_trials.specs.PlainFloors.{example_config};
 ghost use Rattle.venue_words.specs.Conditions.{IsConfig, fits_limits};
 ghost use Rattle.venue_words.specs.Floors.{is_configured};
 

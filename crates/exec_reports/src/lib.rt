@@ -8,6 +8,3 @@ pub mod tags;
 pub mod texts;
 
 pub use bodies::{body, kind};
-
-#[cfg(test)]
-mod tests;

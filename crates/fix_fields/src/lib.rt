@@ -10,6 +10,3 @@ pub use field::{Field, FieldFault};
 pub use forms::{amount, number};
 pub use moments::{FIRST_MOMENT, LAST_MOMENT, moment};
 pub use splitting::fields;
-
-#[cfg(test)]
-mod tests;

@@ -8,6 +8,3 @@ pub mod reading;
 
 pub use framer::{Framer, Next};
 pub use reading::{Reading, read_frames};
-
-#[cfg(test)]
-mod tests;

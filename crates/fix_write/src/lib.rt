@@ -10,6 +10,3 @@ pub mod tags;
 pub use fields::{push_byte_field, push_field, push_moment_field, push_number_field};
 pub use framing::{Head, checksum, frame, wrap};
 pub use moments::push_moment;
-
-#[cfg(test)]
-mod tests;

@@ -13,6 +13,3 @@ pub use ending::{Ending, tell};
 pub use over::{over_fault, weigh};
 pub use reader::{LineReader, NextLine};
 pub use status_text::StatusText;
-
-#[cfg(test)]
-mod tests;

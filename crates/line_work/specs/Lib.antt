@@ -4,7 +4,6 @@ pub mod Commands
 pub mod FeedState
 pub mod LineWork
 pub mod LineWorkLaws
-pub mod Listings
 pub mod OneByOneLaws
 pub mod Output
 pub mod OverLaws

@@ -13,6 +13,3 @@ pub mod worker;
 
 pub use faults::{fault_at, refusal_at};
 pub use worker::LineWorker;
-
-#[cfg(test)]
-mod tests;

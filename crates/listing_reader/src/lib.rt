@@ -12,6 +12,3 @@ mod words;
 pub use fitting::{fits_event, has_word_names};
 pub use laws::lines_differ_by_event;
 pub use lines::{Counts, read_event, read_symbol};
-
-#[cfg(test)]
-mod tests;

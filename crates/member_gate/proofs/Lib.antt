@@ -7,4 +7,3 @@ pub mod Sending
 pub mod Standing
 pub mod Taking
 pub mod Underway
-pub mod PlainFloor

@@ -3,7 +3,6 @@ pub mod AlikeLaws
 pub mod Answering
 pub mod Desks
 pub mod Laws
-pub mod PlainFloors
 pub mod QuietLaws
 pub mod Reporting
 pub mod Submitting

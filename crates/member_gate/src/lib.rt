@@ -23,6 +23,3 @@ pub use desk_table::DeskTable;
 pub use desks::{Desks, desks_of};
 pub use refusal::DeskRefusal;
 pub use session_core::{EndCause, Turn};
-
-#[cfg(test)]
-mod tests;

@@ -4,6 +4,3 @@
 pub mod minimum;
 
 pub use minimum::{floor, may_fill};
-
-#[cfg(test)]
-mod tests;

@@ -6,6 +6,3 @@ pub mod moves;
 
 pub use kept::KeptMove;
 pub use moves::Moves;
-
-#[cfg(test)]
-mod tests;

@@ -8,6 +8,3 @@ pub mod tags;
 
 pub use eager_meaning::{Known, verdict};
 pub use order::{Decoded, Refusal, read_order};
-
-#[cfg(test)]
-mod tests;

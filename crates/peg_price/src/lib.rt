@@ -4,6 +4,3 @@
 pub mod peg;
 
 pub use peg::{peg_value, row_value};
-
-#[cfg(test)]
-mod tests;

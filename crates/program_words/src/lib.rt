@@ -97,5 +97,3 @@ pub fn read_words<'a>(alloc: Global, words: &'a [String]) -> Result<Vec<&'a str>
 }
 
 pub mod arguments;
-#[cfg(test)]
-mod tests;

@@ -8,6 +8,3 @@ pub mod words;
 pub use prices::{cents, digits, price};
 pub use quotes::{QuoteFault, read_quote};
 pub use words::{cut_word, first_space};
-
-#[cfg(test)]
-mod tests;

@@ -5,6 +5,3 @@ pub mod laws;
 pub mod sides;
 
 pub use sides::push_side;
-
-#[cfg(test)]
-mod tests;

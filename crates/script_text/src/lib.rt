@@ -17,6 +17,3 @@ pub use fault::{LimitCause, LineCause, LineFault};
 pub use header::Header;
 pub use lines::{cut_line, first_end};
 pub use load::load_line;
-
-#[cfg(test)]
-mod tests;

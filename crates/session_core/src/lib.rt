@@ -31,6 +31,3 @@ pub use runs::Input;
 pub use session::Session;
 pub use state::{EndCause, Phase, State};
 pub use turn::Turn;
-
-#[cfg(test)]
-mod tests;

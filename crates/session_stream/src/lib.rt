@@ -6,6 +6,3 @@ pub mod hearing;
 pub mod laws;
 
 pub use hearing::{Heard, hear};
-
-#[cfg(test)]
-mod tests;

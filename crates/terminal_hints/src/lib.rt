@@ -11,6 +11,3 @@ mod refused;
 pub use advice::{limit_advice, line_advice};
 pub use hint::{Hint, named, word_at};
 pub use refused::{RefusedLine, refused_line};
-
-#[cfg(test)]
-mod tests;

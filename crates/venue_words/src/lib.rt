@@ -28,6 +28,3 @@ pub use report::{
 };
 pub use row::{Key, Method, Priced, Reference, Rounding, Row, same_key};
 pub use steps::Steps;
-
-#[cfg(test)]
-mod tests;

@@ -1,0 +1,3 @@
+//! One module for each crate that is tried.
+mod desks;
+mod lines;

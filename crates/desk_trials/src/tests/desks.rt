@@ -1,0 +1,369 @@
+//! Worked examples over a desk, with each piece cut in two at many places.
+ghost use Rattle.std.specs.Prelude.{◌≡◌, ◌<◌, length, IfOk};
+ghost use Rattle.venue_words.specs.Conditions.{IsConfig};
+ghost use Rattle.venue_words.specs.Floors.{IsSetUpFor};
+ghost use Rattle.desk_trials.specs.PlainFloors.{example_config};
+
+mod floor;
+mod sequences;
+
+use fix_fields::moment;
+use fix_write::wrap;
+use floor::PlainFloor;
+use member_gate::{CellDesks, Desk, DeskCell, DeskRefusal, DeskTable, Desks, desks_of};
+use sequences::{
+    FULL, GAP_AND_TICK, LOGON, NEXT_CONNECTION, NOT_TOO_LONG, ORDER, REFUSALS, RESEND, TOO_LONG,
+    TOO_LOW, UNKNOWN,
+};
+use std::alloc::{AllocError, Global};
+use std::marker::Brand;
+use std::sync::Wait;
+use std::sync::ledger::{Blank, Ledger};
+use std::test::Fail;
+use venue_words::{Bytes, Command, Config, Floor, Items, NoMemory, Steps};
+
+/// Texts, in which `|` stands for the end of a field.
+type Texts = &'static [&'static [u8]];
+
+/// What comes to a desk.
+enum Received {
+    /// The frames of these contents.
+    Messages(Texts),
+    /// These bytes as they are.
+    Raw(&'static [u8]),
+    /// The frames of these contents, at which the journal is found full.
+    Refused(Texts),
+    /// The quote 10.00 to 10.01, from another feed.
+    Quote,
+    /// The clock.
+    Tick(&'static [u8]),
+    /// A new connection.
+    Connection,
+}
+
+/// What comes to a desk, the contents of the frames that it sends for it at once, and of those that are pulled then.
+type Case = (Received, Texts, Texts);
+
+/// The bytes of a text in which `|` stands for the end of a field.
+fn bytes_of(alloc: Global, text: &[u8]) -> Result<Vec<u8>, AllocError> {
+    let mut bytes = Vec::new(alloc);
+    for byte in text {
+        bytes.push(if *byte == b'|' { 1 } else { *byte })?;
+    }
+    Ok(bytes)
+}
+
+/// The frames of these contents, joined.
+fn frames_of(alloc: Global, texts: Texts) -> Result<Vec<u8>, NoMemory> {
+    let mut bytes = Vec::new(alloc);
+    for text in texts {
+        bytes.extend_from_slice(&wrap(alloc, &bytes_of(alloc, text)?)?)?;
+    }
+    Ok(bytes)
+}
+
+fn at(text: &[u8]) -> i64 {
+    moment(text).unwrap_or(0)
+}
+
+fn start() -> i64 {
+    at(b"20240102-14:30:00.000")
+}
+
+/// Whether the frames have these contents.
+fn have_contents(alloc: Global, frames: &[Bytes], expected: Texts) -> Result<bool, NoMemory> {
+    if frames.len() != expected.len() {
+        return Ok(false);
+    }
+    for (frame, text) in frames.iter().zip(expected) {
+        if frame.as_slice() != wrap(alloc, &bytes_of(alloc, text)?)?.as_slice() {
+            return Ok(false);
+        }
+    }
+    Ok(true)
+}
+
+/// The config of two members, one market and two symbols.
+fn config_of(alloc: Global) -> Result<Config, AllocError>
+    ensures { IfOk result (λ config. config ≡ example_config) }
+{
+    let a = Bytes::copy_of(alloc, b"A")?;
+    let b = Bytes::copy_of(alloc, b"B")?;
+    Ok(Config {
+        members: Items(vec![in alloc; a, b]?),
+        markets: Items(vec![in alloc; Bytes::copy_of(alloc, b"N")?]?),
+        symbols: Items(vec![in alloc; Bytes::copy_of(alloc, b"X")?, Bytes::copy_of(alloc, b"Y")?]?),
+        limits: Items(vec![in alloc; 4, 4]?),
+        ticks: Items(vec![in alloc; 2, 2]?),
+        begin: 0,
+    })
+}
+
+/// Gives a desk a piece in two parts, cut at this place or at the end, and answers what it sends.
+fn take_cut<F: Floor, L: Ledger>(
+    desk: &mut Desk,
+    floor: &mut F,
+    config: &Config,
+    piece: &[u8],
+    cut: usize,
+    steps: &mut Steps<L>,
+) -> Result<Vec<Bytes>, DeskRefusal>
+    requires config { IsConfig config.now }
+    requires setup { IsSetUpFor config.now (F.mark floor.old).setup }
+    requires member { desk.old.member < length config.now.members }
+    ensures member { desk.new.member ≡ desk.old.member }
+    ensures mark { F.mark floor.new ≡ F.mark floor.old }
+{
+    let (first, second) = piece.split_at(cut.min(piece.len()));
+    let mut replies = desk
+        .take(floor, config, 1, start(), first, steps)?
+        .replies
+        .into_vec();
+    let mut others = desk
+        .take(floor, config, 1, start(), second, steps)?
+        .replies
+        .into_vec();
+    replies.append(&mut others)?;
+    Ok(replies)
+}
+
+/// What a desk sends at once for what it receives.
+fn receive<F: Floor, L: Ledger>(
+    alloc: Global,
+    desk: &mut Desk,
+    floor: &mut F,
+    config: &Config,
+    received: &Received,
+    cut: usize,
+    steps: &mut Steps<L>,
+) -> Result<Vec<Bytes>, DeskRefusal>
+    requires config { IsConfig config.now }
+    requires setup { IsSetUpFor config.now (F.mark floor.old).setup }
+    requires member { desk.old.member < length config.now.members }
+    requires symbols { 0 < length config.now.symbols }
+    requires markets { 0 < length config.now.markets }
+    ensures member { desk.new.member ≡ desk.old.member }
+    ensures mark { F.mark floor.new ≡ F.mark floor.old }
+{
+    match received {
+        Received::Messages(texts) => {
+            let piece = frames_of(alloc, *texts)?;
+            take_cut(desk, floor, config, &piece, cut, steps)
+        }
+        Received::Raw(text) => {
+            let piece = bytes_of(alloc, text)?;
+            take_cut(desk, floor, config, &piece, cut, steps)
+        }
+        Received::Refused(texts) => {
+            let piece = frames_of(alloc, *texts)?;
+            match take_cut(desk, floor, config, &piece, cut, steps) {
+                Err(
+                    DeskRefusal::Full {
+                        symbol: 0,
+                        found: 4,
+                    },
+                ) => Ok(Vec::new(alloc)),
+                _ => Err(DeskRefusal::NoMemory),
+            }
+        }
+        Received::Quote => {
+            let command = Command::Quote {
+                market: 0,
+                bid: Some(1000),
+                offer: Some(1001),
+            };
+            match floor.submit(0, 9, start(), &command, steps) {
+                Ok(_) => Ok(Vec::new(alloc)),
+                Err(_) => Err(DeskRefusal::NoMemory),
+            }
+        }
+        Received::Tick(text) => Ok(desk.tick(at(text))?.replies.into_vec()),
+        Received::Connection => {
+            desk.open();
+            Ok(Vec::new(alloc))
+        }
+    }
+}
+
+/// Works the cases in their order, each piece being cut at this place, and answers the first one that goes otherwise.
+fn first_other<F: Floor, L: Ledger>(
+    alloc: Global,
+    desk: &mut Desk,
+    floor: &mut F,
+    config: &Config,
+    cases: &[Case],
+    cut: usize,
+    blank: Blank,
+) -> Result<Option<usize>, DeskRefusal>
+    requires config { IsConfig config.now }
+    requires setup { IsSetUpFor config.now (F.mark floor.old).setup }
+    requires member { desk.old.member < length config.now.members }
+    requires symbols { 0 < length config.now.symbols }
+    requires markets { 0 < length config.now.markets }
+    requires blank { (blank.name ≡ L.name) × (blank.parts ≡ L.parts) × (L.parts ≡ 1) }
+{
+    let mut steps: Steps<L> = Steps::start(blank);
+    for (place, case) in cases.iter().enumerate() {
+        let (received, replies, reports) = case;
+        let sent = receive(alloc, desk, floor, config, received, cut, &mut steps)?;
+        let pulled = desk.pull(floor, config, start())?;
+        if !have_contents(alloc, &sent, *replies)? || !have_contents(alloc, &pulled, *reports)? {
+            return Ok(Some(place));
+        }
+    }
+    Ok(None)
+}
+
+/// A floor of that config, without events.
+fn floor_of(alloc: Global) -> Result<PlainFloor, AllocError>
+    ensures { IfOk result (λ floor. floor.config ≡ example_config) }
+{
+    Ok(PlainFloor {
+        alloc,
+        config: config_of(alloc)?,
+        journal: Vec::new(alloc),
+        own: Vec::new(alloc),
+        asked: 0,
+    })
+}
+
+/// Works the cases over a new desk of A.
+fn goes_otherwise(alloc: Global, cases: &[Case], cut: usize) -> Result<Option<usize>, DeskRefusal> {
+    let config = config_of(alloc)?;
+    let mut desk = Desk::new(alloc, 0, &config)?;
+    let mut floor = floor_of(alloc)?;
+    let blank = Blank::new(1);
+    first_other::<PlainFloor, Brand>(alloc, &mut desk, &mut floor, &config, cases, cut, blank)
+}
+
+#[test]
+fn worked_examples(rt: HostRuntime) -> Result<(), Fail> {
+    let alloc = rt.alloc();
+    let sequences: [&[Case]; 9] = [
+        &RESEND,
+        &REFUSALS,
+        &UNKNOWN,
+        &TOO_LONG,
+        &NOT_TOO_LONG,
+        &NEXT_CONNECTION,
+        &GAP_AND_TICK,
+        &TOO_LOW,
+        &FULL,
+    ];
+    for (number, cases) in sequences.iter().enumerate() {
+        for cut in [0, 1, 11, 20, 40, 90, 1000] {
+            let other = goes_otherwise(alloc, cases, cut).map_err(|_| NoMemory)?;
+            assert!(rt;
+                other.is_none(),
+                "sequence {number}, cut at {cut}: {other:?}"
+            );
+        }
+    }
+    Ok(())
+}
+
+/// Pulls news where there are some: whether there were, how many frames came, and whether there are some then.
+fn pull_where_news<F: Floor>(
+    desk: &mut Desk,
+    floor: &mut F,
+    config: &Config,
+) -> Result<(bool, usize, bool), NoMemory>
+    requires config { IsConfig config.now }
+    requires setup { IsSetUpFor config.now (F.mark floor.old).setup }
+    requires member { desk.old.member < length config.now.members }
+    requires symbols { length config.now.symbols ≡ 2 }
+{
+    let first = floor.reports_after(0, 0, 0)?.front;
+    let second = floor.reports_after(1, 0, 0)?.front;
+    let fronts = [first, second];
+    let before = desk.has_news(&fronts);
+    let frames = desk.pull_news(floor, config, &fronts, start())?;
+    Ok((before, frames.len(), desk.has_news(&fronts)))
+}
+
+/// A logs on and enters an order: what its desk then tells and pulls as news, and how many commands it submitted.
+fn news_of_order<F: Floor, L: Ledger>(
+    alloc: Global,
+    desk: &mut Desk,
+    floor: &mut F,
+    config: &Config,
+    blank: Blank,
+) -> Result<((bool, usize, bool), u32), DeskRefusal>
+    requires config { IsConfig config.now }
+    requires setup { IsSetUpFor config.now (F.mark floor.old).setup }
+    requires member { desk.old.member < length config.now.members }
+    requires symbols { length config.now.symbols ≡ 2 }
+    requires blank { (blank.name ≡ L.name) × (blank.parts ≡ L.parts) × (L.parts ≡ 1) }
+{
+    let mut steps: Steps<L> = Steps::start(blank);
+    let piece = frames_of(alloc, &[LOGON, ORDER])?;
+    let _ = desk.take(floor, config, 1, start(), &piece, &mut steps)?;
+    let submitted = desk.submitted();
+    Ok((pull_where_news(desk, floor, config)?, submitted))
+}
+
+/// The same over a new desk and floor, and how often the symbol without a book was asked.
+fn news_and_asked(alloc: Global) -> Result<((bool, usize, bool), u32, u32), DeskRefusal> {
+    let config = config_of(alloc)?;
+    let mut desk = Desk::new(alloc, 0, &config)?;
+    let mut floor = floor_of(alloc)?;
+    let blank = Blank::new(1);
+    let (pulled, submitted) = news_of_order::<PlainFloor, Brand>(
+        alloc, &mut desk, &mut floor, &config, blank,
+    )?;
+    Ok((pulled, submitted, floor.asked))
+}
+
+#[test]
+fn news_alone_are_asked_for(rt: HostRuntime) -> Result<(), Fail> {
+    let (pulled, submitted, asked) = news_and_asked(rt.alloc()).map_err(|_| NoMemory)?;
+    assert_eq!(rt; pulled, (true, 1, false));
+    assert_eq!(rt; submitted, 1);
+    // The count of its reports was asked for once, and nothing by the pull.
+    assert_eq!(rt; asked, 1);
+    Ok(())
+}
+
+/// Takes a member's desk twice, gives it back and takes it again: whether it was there each time.
+fn take_twice<D: Desks>(desks: &mut D, member: u32) -> (bool, bool, bool)
+    requires { member < D.members desks.old }
+    ensures { D.members desks.new ≡ D.members desks.old }
+{
+    let first = desks.take(member);
+    let there = first.is_some();
+    let again = desks.take(member).is_some();
+    if let Some(desk) = first {
+        desks.give(member, desk);
+    }
+    (there, again, desks.take(member).is_some())
+}
+
+/// Threads may share it.
+fn share<T: Sync>(_shared: &T) {}
+
+/// Two takes of a desk in a table, and of one in a cell; and how many refusals the cell's desks counted.
+fn takes(
+    rt: &impl Wait,
+    alloc: Global,
+) -> Result<((bool, bool, bool), (bool, bool, bool), u64), NoMemory> {
+    let mut table = DeskTable::new(alloc, desks_of(alloc, &config_of(alloc)?)?)?;
+    let from_table = take_twice(&mut table, 0);
+    let cell = DeskCell::new(table);
+    share(&cell);
+    let mut desks = CellDesks {
+        rt,
+        cell: &cell,
+        refused: 0,
+    };
+    let from_cell = take_twice(&mut desks, 1);
+    Ok((from_table, from_cell, desks.refused))
+}
+
+#[test]
+fn a_desk_is_taken_once(rt: HostRuntime) -> Result<(), Fail> {
+    let (from_table, from_cell, refused) = takes(&rt, rt.alloc())?;
+    assert_eq!(rt; from_table, (true, false, true));
+    assert_eq!(rt; from_cell, (true, false, true));
+    assert_eq!(rt; refused, 1);
+    Ok(())
+}

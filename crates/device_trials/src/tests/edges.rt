@@ -1,0 +1,5 @@
+//! Devices in memory, and adapters to real files and streams.
+mod adapters;
+mod clocks;
+mod links;
+mod memory;

@@ -1,5 +1,0 @@
--- The ledger of the steps, which nothing reads.
-use Rattle.line_work.proofs.tests.worked.Given as goal
-
-abbrev pub ghosts-work_all : goal.ghosts-work_all
-ghosts-work_all a = record { name = a.blank.name; parts = a.blank.parts }

@@ -1,0 +1,120 @@
+//! The last change below a limit, on examples and beside a plain list of all moves.
+ghost use Rattle.std.specs.Prelude.{◌≡◌, ◌<◌};
+
+use move_history::Moves;
+use std::alloc::Global;
+use std::marker::Brand;
+use std::process::Abort;
+use std::sync::ledger::{Blank, Ledger};
+use std::test::Fail;
+use venue_words::{NoMemory, Steps};
+
+/// Numbers that look random and are the same in each run.
+#[derive(Drop)]
+struct Random(u64);
+
+impl Random {
+    fn below(&mut self, end: u32) -> u32
+        requires { 0 < end }
+    {
+        self.0 = self
+            .0
+            .wrapping_mul(6_364_136_223_846_793_005)
+            .wrapping_add(1_442_695_040_888_963_407);
+        u32::try_from(self.0 >> 33).unwrap_or(0) % end
+    }
+}
+
+/// The newest move whose value and the value before it differ once both are held at the cap.
+fn plain_changed(first: u32, moves: &[(u32, u32)], cap: u32) -> u32 {
+    let mut answer = 0;
+    let mut before = first;
+    for (event, value) in moves {
+        if before.min(cap) != (*value).min(cap) {
+            answer = *event;
+        }
+        before = *value;
+    }
+    answer
+}
+
+fn worked_example<L: Ledger>(alloc: Global, steps: &mut Steps<L>) -> Result<[u32; 4], NoMemory> {
+    let mut moves = Moves::start(alloc, 0);
+    moves.reserve()?;
+    moves.push(2, 2001, steps);
+    moves.reserve()?;
+    moves.push(4, 2003, steps);
+    let early = moves.changed(2000, steps);
+    moves.reserve()?;
+    moves.push(6, 1999, steps);
+    moves.reserve()?;
+    moves.push(8, 2003, steps);
+    Ok([
+        early,
+        moves.changed(2000, steps),
+        moves.changed(1990, steps),
+        moves.changed(2002, steps),
+    ])
+}
+
+fn count_example<L: Ledger>(alloc: Global, blank: Blank) -> Result<[u32; 4], NoMemory>
+    requires name { blank.name ≡ L.name }
+    requires parts { blank.parts ≡ L.parts }
+    requires one { blank.parts ≡ 1 }
+{
+    let mut steps = Steps::<L>::start(blank);
+    worked_example(alloc, &mut steps)
+}
+
+fn compare_many<L: Ledger>(
+    rt: &impl Abort,
+    alloc: Global,
+    steps: &mut Steps<L>,
+) -> Result<(), NoMemory> {
+    let mut random = Random(11);
+    let mut plain = Vec::new(alloc);
+    let mut moves = Moves::start(alloc, 7);
+    for event in 1..3000 {
+        let value = random.below(200);
+        plain.push((event, value))?;
+        moves.reserve()?;
+        moves.push(event, value, steps);
+        let cap = random.below(202);
+        assert_eq!(rt;
+            moves.changed(cap, steps),
+            plain_changed(7, plain.as_slice(), cap),
+            "cap {cap}"
+        );
+        assert_eq!(rt; moves.current(), value);
+    }
+    for cap in 0..203 {
+        assert_eq!(rt;
+            moves.changed(cap, steps),
+            plain_changed(7, plain.as_slice(), cap),
+            "cap {cap}"
+        );
+    }
+    Ok(())
+}
+
+fn count_many<L: Ledger>(rt: &impl Abort, alloc: Global, blank: Blank) -> Result<(), NoMemory>
+    requires name { blank.name ≡ L.name }
+    requires parts { blank.parts ≡ L.parts }
+    requires one { blank.parts ≡ 1 }
+{
+    let mut steps = Steps::<L>::start(blank);
+    compare_many(rt, alloc, &mut steps)
+}
+
+#[test]
+fn a_dip_below_a_limit_and_back_is_a_change(rt: HostRuntime) -> Result<(), Fail> {
+    let found = count_example::<Brand>(rt.alloc(), Blank::new(1))?;
+    assert_eq!(rt; found, [2, 8, 2, 8]);
+    Ok(())
+}
+
+#[test]
+fn thousands_of_moves_answer_as_a_plain_list(rt: HostRuntime) -> Result<(), Fail> {
+    count_many::<Brand>(&rt, rt.alloc(), Blank::new(1))?;
+    Ok(())
+}

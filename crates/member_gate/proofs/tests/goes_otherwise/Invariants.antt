@@ -1,5 +1,0 @@
--- The ledger of the steps, which nothing reads.
-use Rattle.member_gate.proofs.tests.goes_otherwise.Given as goal
-
-abbrev pub ghosts-first_other : goal.ghosts-first_other
-ghosts-first_other a = record { name = a.blank.name; parts = a.blank.parts }

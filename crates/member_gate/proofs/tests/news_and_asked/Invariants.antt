@@ -1,5 +1,0 @@
--- The ledger of the steps, which nothing reads.
-use Rattle.member_gate.proofs.tests.news_and_asked.Given as goal
-
-abbrev pub ghosts-news_of_order : goal.ghosts-news_of_order
-ghosts-news_of_order a = record { name = a.blank.name; parts = a.blank.parts }
