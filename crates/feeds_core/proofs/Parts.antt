@@ -1,22 +1,17 @@
 -- A listing is put part by part.
-use Rattle.std.proofs.Common.{◌≡◌, ℕ, zero, suc, ◌+◌, ◌<◌, ◌≤◌, min, List, [], ◌∷◌, ◌++◌, length, take, drop, get_or, slice_get, Option, None, Some, refl, sym, ◌∙◌, ap, subst, append-nil, append_assoc, add-one, arith}
-use Rattle.std.proofs.lemmas.List.{drop_all}
+use Rattle.std.proofs.Common.{◌≡◌, ℕ, zero, suc, ◌+◌, ◌<◌, ◌≤◌, min, List, [], ◌∷◌, ◌++◌, length, take, drop, get_or, slice_get, Option, None, Some, refl, sym, ◌∙◌, ap, subst, append_assoc, add-one, arith, take-append-drop}
 use Rattle.std.proofs.lemmas.List.{take-append-le}
 use Rattle.std.proofs.Math.Seq.{take-append-add}
 use Rattle.std.specs.Io.KnownBytes.{Appends}
 use Rattle.io_edge.specs.Grows.{AppendsPrefix}
 use Rattle.venue_words.specs.declared.config.Config.{Config}
 use Rattle.symbol_book.specs.Book.{BookView}
+use Rattle.symbol_book.specs.Setting.{book_setting, run_at}
 use Rattle.venue_core.specs.Runs.{run_in}
-use Rattle.listing.specs.Listing.{part_text, listing_from}
-use Rattle.feeds_core.specs.FeedRuns.{listing_of, parts_from}
-use Rattle.feeds_core.specs.Putting.{PutsFirst, journals_of}
+use Rattle.feeds_core.specs.Books.{MakeRunsFrom}
+use Rattle.feeds_core.specs.Putting.{PutsUpTo, book_text, parts_text}
 
-pub appends_none : (t : Option (List ℕ)) → Appends t t []
-appends_none None = tt
-appends_none (Some xs) = sym (append-nil xs)
-
-pub appends_then : (a b c : Option (List ℕ)) (xs ys : List ℕ) → Appends a b xs → Appends b c ys → Appends a c (xs ++ ys)
+appends_then : (a b c : Option (List ℕ)) (xs ys : List ℕ) → Appends a b xs → Appends b c ys → Appends a c (xs ++ ys)
 appends_then None b c xs ys x y = tt
 appends_then (Some us) None c xs ys x y = absurd x
 appends_then (Some us) (Some vs) None xs ys x y = absurd y
@@ -47,54 +42,76 @@ prefix_front b c xs ys x =
     let within : k ≤ length xs = omega arith in
     (k, subst (Appends b c) (take_min x.0 xs ∙ sym (take-append-le k xs ys within)) x.1)
 
+-- ---- a text that is put in parts
+
+pub more_put : (whole here part left : List ℕ) (a b c : Option (List ℕ)) → PutsUpTo whole here a b → here ≡ part ++ left
+    → Appends b c part → PutsUpTo whole left a c
+more_put whole here part left a b c x begins grew = record {
+  done = x.done ++ part;
+  grew = appends_then a b c x.done part x.grew grew;
+  same = x.same ∙ ap (λ (t : List ℕ). x.done ++ t) begins ∙ sym (append_assoc x.done part left);
+}
+
+pub put_stops : (whole here part left : List ℕ) (a b c : Option (List ℕ)) → PutsUpTo whole here a b → here ≡ part ++ left
+    → AppendsPrefix b c part → AppendsPrefix a c whole
+put_stops whole here part left a b c x begins grew =
+    subst (AppendsPrefix a c) (sym (x.same ∙ ap (λ (t : List ℕ). x.done ++ t) begins))
+    (prefix_then a b c x.done (part ++ left) x.grew (prefix_front b c part left grew))
+
 -- ---- books
 
-pub first_part : (config : Config) (books : List BookView) (t : Option (List ℕ)) → PutsFirst config books 0 t t
-first_part config books t = record { done = []; grew = appends_none t; same = refl }
+-- a book stands at each place
+pub book_at : (books : List BookView) (place : ℕ) → place < length books → (book : BookView) × (book ≡ get_or books place book)
+book_at [] place less = absurd (omega arith)
+book_at (b ∷ bs) zero less = (b, refl)
+book_at (b ∷ bs) (suc place) less = book_at bs place (omega arith)
 
 drop_book : (xs : List BookView) (k : ℕ) (d : BookView) → k < length xs → d ≡ get_or xs k d → drop k xs ≡ d ∷ drop (suc k) xs
 drop_book [] k d l e = absurd (omega arith)
 drop_book (y ∷ ys) zero d l e = ap (λ (z : BookView). z ∷ ys) (sym e)
 drop_book (y ∷ ys) (suc k) d l e = drop_book ys k d (omega arith) e
 
--- what is left begins with the part of the next book
-next_part : (config : Config) (books : List BookView) (count : ℕ) (book : BookView) (a b : Option (List ℕ)) (x : PutsFirst config books count a b)
-    → count < length books → book ≡ get_or books count book
-    → listing_of config (journals_of books)
-    ≡ x.done ++ (part_text config count book.journal (run_in config count book.journal).reports
-    ++ listing_from config (count + 1) (parts_from config (count + 1) (journals_of (drop (count + 1) books))))
-next_part config books count book a b x l e =
-    let here : drop count books ≡ book ∷ drop (count + 1) books = rw add-one (drop_book books count book l e) in
-    x.same ∙ ap (λ (bs : List BookView). x.done ++ listing_from config count (parts_from config count (journals_of bs))) here
+-- the parts from a place on begin with the part there
+pub next_part : (config : Config) (first : ℕ) (books : List BookView) (place : ℕ) (book : BookView)
+    → place < length books → book ≡ get_or books place book
+    → parts_text config (first + place) (drop place books)
+    ≡ book_text config (first + place) book ++ parts_text config (first + (place + 1)) (drop (place + 1) books)
+next_part config first books place book l e =
+    let here : drop place books ≡ book ∷ drop (place + 1) books = rw add-one (drop_book books place book l e) in
+    let after : (first + place) + 1 ≡ first + (place + 1) = omega arith in
+    ap (parts_text config (first + place)) here
+    ∙ ap (λ (n : ℕ). book_text config (first + place) book ++ parts_text config n (drop (place + 1) books)) after
 
-pub more_parts : (config : Config) (books : List BookView) (count : ℕ) (book : BookView) (a b c : Option (List ℕ))
-    → PutsFirst config books count a b → count < length books → book ≡ get_or books count book
-    → Appends b c (part_text config count book.journal (run_in config count book.journal).reports)
-    → PutsFirst config books (count + 1) a c
-more_parts config books count book a b c x l e grew =
-    let part = part_text config count book.journal (run_in config count book.journal).reports in record {
-      done = x.done ++ part;
-      grew = appends_then a b c x.done part x.grew grew;
-      same = next_part config books count book a b x l e
-          ∙ sym (append_assoc x.done part (listing_from config (count + 1) (parts_from config (count + 1) (journals_of (drop (count + 1) books)))));
-    }
+-- the parts of books are those of the front and those behind it
+pub parts_of_both : (config : Config) (first : ℕ) (front later : List BookView)
+    → parts_text config first (front ++ later) ≡ parts_text config first front ++ parts_text config (first + length front) later
+parts_of_both config first [] later =
+    let none : first ≡ first + 0 = omega arith in ap (λ (n : ℕ). parts_text config n later) none
+parts_of_both config first (b ∷ bs) later =
+    let count : (first + 1) + length bs ≡ first + length (b ∷ bs) = omega arith in
+    ap (λ (t : List ℕ). book_text config first b ++ t)
+    (parts_of_both config (first + 1) bs later
+    ∙ ap (λ (n : ℕ). parts_text config (first + 1) bs ++ parts_text config n later) count)
+    ∙ sym (append_assoc (book_text config first b) (parts_text config (first + 1) bs) (parts_text config (first + length (b ∷ bs)) later))
 
-pub part_stops : (config : Config) (books : List BookView) (count : ℕ) (book : BookView) (a b c : Option (List ℕ))
-    → PutsFirst config books count a b → count < length books → book ≡ get_or books count book
-    → AppendsPrefix b c (part_text config count book.journal (run_in config count book.journal).reports)
-    → AppendsPrefix a c (listing_of config (journals_of books))
-part_stops config books count book a b c x l e grew =
-    subst (AppendsPrefix a c) (sym (next_part config books count book a b x l e))
-    (prefix_then a b c x.done _ x.grew (prefix_front b c _ _ grew))
+get_later : (front later : List BookView) (k : ℕ) (book : BookView) → slice_get later k ≡ Some book
+    → slice_get (front ++ later) (length front + k) ≡ Some book
+get_later [] later k book e =
+    let none : k ≡ 0 + k = omega arith in subst (λ (n : ℕ). slice_get later n ≡ Some book) none e
+get_later (y ∷ ys) later k book e =
+    let next : suc (length ys + k) ≡ length (y ∷ ys) + k = omega arith in
+    subst (λ (n : ℕ). slice_get (y ∷ (ys ++ later)) n ≡ Some book) next (get_later ys later k book e)
 
-pub all_parts : (config : Config) (books : List BookView) (count : ℕ) (a b : Option (List ℕ)) → PutsFirst config books count a b
-    → length books ≤ count → Appends a b (listing_of config (journals_of books))
-all_parts config books count a b x l =
-    let none : drop count books ≡ [] = drop_all count books l in
-    subst (Appends a b) (sym (x.same ∙ ap (λ (bs : List BookView). x.done ++ listing_from config count (parts_from config count (journals_of bs))) none
-    ∙ append-nil x.done)) x.grew
+-- books that are cut in two
+pub cut_books : (n : ℕ) (books front later : List BookView) → front ≡ take n books → later ≡ drop n books → books ≡ front ++ later
+cut_books n books front later e f =
+    sym (ap (λ (l : List BookView). l ++ later) e ∙ ap (λ (l : List BookView). take n books ++ l) f ∙ take-append-drop n books)
 
-pub get_book : (books : List BookView) (k : ℕ) (book : BookView) → k < length books → book ≡ get_or books k book → slice_get books k ≡ Some book
-get_book [] k book l e = absurd (omega arith)
-get_book (y ∷ ys) zero book l e = ap Some (sym e)
-get_book (y ∷ ys) (suc k) book l e = get_book ys k book (omega arith) e
+-- ---- what books make
+
+pub later_runs : (config : Config) (first : ℕ) (front later : List BookView) → MakeRunsFrom config first (front ++ later)
+    → MakeRunsFrom config (first + length front) later
+later_runs config first front later runs place book at =
+    let sum : first + (length front + place) ≡ (first + length front) + place = omega arith in
+    subst (λ (n : ℕ). run_at (book_setting book) book.journal ≡ run_in config n book.journal) sum
+    (runs (length front + place) book (get_later front later place book at))

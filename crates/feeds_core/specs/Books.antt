@@ -1,5 +1,5 @@
 -- The books of a venue that feeds were worked on.
-use Rattle.std.specs.Prelude.{◌≡◌, ℕ, ◌<◌, ◌≤◌, List, Some, length, map, slice_get, slice_index, sum_by}
+use Rattle.std.specs.Prelude.{◌≡◌, ℕ, ◌+◌, ◌<◌, ◌≤◌, List, Some, length, map, slice_get, slice_index, sum_by}
 use Rattle.venue_words.specs.declared.config.Config.{Config}
 use Rattle.eager_meaning.specs.Interleaving.{Interleaves}
 use Rattle.symbol_book.specs.Book.{BookView}
@@ -27,3 +27,9 @@ abbrev pub MakeRuns : Config → List BookView → Type 0
 MakeRuns config books =
     (symbol : ℕ) (book : BookView) → slice_get books symbol ≡ Some book
     → run_at (book_setting book) book.journal ≡ run_in config symbol book.journal
+
+-- the same of the books of symbols that stand one behind the other in the config, from this one on
+abbrev pub MakeRunsFrom : Config → ℕ → List BookView → Type 0
+MakeRunsFrom config first books =
+    (place : ℕ) (book : BookView) → slice_get books place ≡ Some book
+    → run_at (book_setting book) book.journal ≡ run_in config (first + place) book.journal

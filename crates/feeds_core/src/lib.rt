@@ -15,6 +15,7 @@ mod joining;
 mod listing_floor;
 mod looking;
 mod naming;
+mod part_text;
 mod plan;
 mod putting;
 mod reading;
@@ -25,6 +26,7 @@ mod splitting;
 mod status;
 mod sums;
 mod telling;
+mod texts_at_once;
 mod venue;
 mod working;
 

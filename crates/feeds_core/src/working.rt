@@ -98,7 +98,7 @@ pub fn work_texts<R: Threads + Wait + Sync, P: Pace + Sync, K: Sink>(
     let lists = lists_of(rt, alloc, config, texts)?;
     let commands = commands_of(alloc, lists)?;
     let books = work_on_venue(rt, alloc, HashSeed::fixed(), config, pace, commands)?;
-    match put_books(alloc, config, books.as_slice(), out) {
+    match put_books(rt, alloc, config, books.as_slice(), out) {
         Ok(()) => Ok(()),
         Err(fault) => Err(listing_status(fault)),
     }

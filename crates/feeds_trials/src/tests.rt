@@ -4,6 +4,7 @@ ghost use Rattle.std.specs.Prelude.{◌<◌};
 mod failing;
 mod full;
 mod many;
+mod market;
 mod paced;
 mod refused;
 

@@ -8,7 +8,8 @@ use std::test::Fail;
 
 const FEEDS: usize = 64;
 
-const SYMBOLS: usize = 16;
+/// More than those whose texts are made at once.
+const SYMBOLS: usize = 20;
 
 /// How many quotes a feed has for each symbol.
 const QUOTES: usize = 5;
