@@ -5,6 +5,9 @@ pub mod Grows
 pub mod NamingLaws
 pub mod Over
 pub mod Pieces
+pub mod QuoteLines
+pub mod QuoteReads
+pub mod QuotesMiddle
 pub mod Reports
 pub mod SessionLaws
 pub mod WholeTurns

@@ -38,7 +38,7 @@ answered_more xs p turn q (Some a) (Some b) (Some c) (Some d) h k l = record {
       ∙ append_assoc a.put p q;
 }
 
-moments_more : (xs ys : List ℤ) (a b c : Option (List ℤ)) → GaveMoments xs a b → GaveMoments ys b c → GaveMoments (xs ++ ys) a c
+pub moments_more : (xs ys : List ℤ) (a b c : Option (List ℤ)) → GaveMoments xs a b → GaveMoments ys b c → GaveMoments (xs ++ ys) a c
 moments_more xs ys a b None h k = tt
 moments_more xs ys a None (Some c) h k = absurd k
 moments_more xs ys None (Some b) (Some c) h k = absurd h

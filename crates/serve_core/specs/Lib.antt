@@ -2,6 +2,8 @@ pub mod Connections
 pub mod Greeting
 pub mod Growing
 pub mod Naming
+pub mod QuoteFiles
+pub mod Quoting
 pub mod Rounds
 pub mod Sessions
 pub mod Setups

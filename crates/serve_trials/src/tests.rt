@@ -2,6 +2,8 @@
 ghost use Rattle.std.specs.Prelude.{◌≡◌, ◌<◌, length, IfOk};
 ghost use Rattle.venue_words.specs.Conditions.{IsConfig};
 
+mod quotes;
+
 use fix_write::wrap;
 use io_edge::{LinkItem, MemClock, MemLink, MemShelf};
 use link_work::LinkEnd;
