@@ -1,4 +1,5 @@
-// Talks to a running venue as two members, FUND and BANK, through QuickFIX with the dictionaries beside this file.
+// Talks to a running venue as two members, FUND and BANK, and as RISK, a drop session that gets copies of the reports of both, through
+// QuickFIX with the dictionaries beside this file.
 // It goes through a day in small and ends with 0 only where every step came and every message of the venue fitted the dictionaries.
 #include <chrono>
 #include <condition_variable>
@@ -7,6 +8,7 @@
 #include <iostream>
 #include <map>
 #include <mutex>
+#include <set>
 #include <stdexcept>
 #include <string>
 #include <vector>
@@ -22,7 +24,7 @@ namespace {
 
 using Seconds = std::chrono::seconds;
 
-// What a member got from the venue: its reports in order, and whether its session is up.
+// What each session got from the venue: its reports in order, and whether it is up.
 class Members : public FIX::Application {
 public:
     void onCreate(const FIX::SessionID&) override {}
@@ -86,9 +88,13 @@ public:
         return false;
     }
 
+    // How many reports a member got; one that came again counts once.
     std::size_t count(const std::string& member) const {
         const auto found = reports.find(member);
-        return found == reports.end() ? 0 : found->second.size();
+        if (found == reports.end()) return 0;
+        std::set<std::string> numbers;
+        for (const FIX::Message& report : found->second) numbers.insert(report.getHeader().getField(FIX::FIELD::MsgSeqNum));
+        return numbers.size();
     }
 
     std::map<std::string, bool> up;
@@ -132,6 +138,7 @@ void order(const std::string& member, const std::string& id, const std::string& 
 
 void day(Members& members, FIX::SocketInitiator& initiator) {
     members.wait("both members are logged on", [&] { return members.up["FUND"] && members.up["BANK"]; });
+    members.wait("the drop session is logged on", [&] { return members.up["RISK"]; });
 
     order("FUND", "f-1", "1", "500");
     members.wait("a new order is accepted", [&] { return members.has("FUND", {{11, "f-1"}, {150, "0"}}); });
@@ -148,6 +155,12 @@ void day(Members& members, FIX::SocketInitiator& initiator) {
     members.wait("a cancel of no order is refused", [&] { return members.has("FUND", {{11, "f-3"}, {39, "8"}, {434, "1"}, {9702, "16"}}); });
     send("FUND", "D", {{11, "f-4"}, {55, "ABC"}, {54, "1"}, {38, "0"}, {40, "P"}, {1094, "2"}});
     members.wait("an order without shares is rejected", [&] { return members.has("FUND", {{11, "f-4"}, {150, "8"}, {9702, "3"}}); });
+
+    // RISK has copies of what both were told, each with its member's name.
+    members.wait("the new order is copied", [&] { return members.has("RISK", {{11, "f-1"}, {150, "0"}, {9703, "FUND"}}); });
+    members.wait("BANK's fill is copied", [&] { return members.has("RISK", {{11, "b-1"}, {150, "F"}, {31, "20.0050"}, {9703, "BANK"}}); });
+    members.wait("FUND's fill is copied", [&] { return members.has("RISK", {{11, "f-2"}, {150, "F"}, {151, "300"}, {9703, "FUND"}}); });
+    members.wait("the refused cancel is copied", [&] { return members.has("RISK", {{11, "f-3"}, {434, "1"}, {9702, "16"}, {9703, "FUND"}}); });
 
     // FUND is cut off, and BANK trades with what FUND left in the book.
     const std::size_t before = members.count("FUND");
@@ -170,8 +183,11 @@ void day(Members& members, FIX::SocketInitiator& initiator) {
     send("FUND", "F", {{11, "f-5"}, {41, "f-2"}, {55, "ABC"}, {54, "1"}});
     members.wait("what is left is canceled", [&] { return members.has("FUND", {{11, "f-5"}, {41, "f-2"}, {150, "4"}, {39, "4"}}); });
 
+    members.wait("the cancel is copied", [&] { return members.has("RISK", {{11, "f-5"}, {41, "f-2"}, {150, "4"}, {9703, "FUND"}}); });
+    members.wait("every report is copied once", [&] { return members.count("RISK") == members.count("FUND") + members.count("BANK"); });
+
     initiator.stop();
-    members.wait("both are logged out", [&] { return !members.up["FUND"] && !members.up["BANK"]; });
+    members.wait("all are logged out", [&] { return !members.up["FUND"] && !members.up["BANK"] && !members.up["RISK"]; });
 }
 
 }  // namespace

@@ -1,3 +1,4 @@
+pub mod Asked
 pub mod Closed
 pub mod Listings
 pub mod Lists

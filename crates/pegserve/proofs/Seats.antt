@@ -1,6 +1,7 @@
 -- Seats that are split off, come back and are joined.
-use Rattle.std.proofs.Common.{◌≡◌, ◌<◌, ◌+◌, ◌-◌, get_or, ℕ, zero, suc, List, [], ◌∷◌, ◌++◌, length, map, slice_get, Some, refl, sym, ◌∙◌, ap, arith, append-nil, length-append}
-use Rattle.std.specs.List.{All}
+use Rattle.std.proofs.Common.{◌≡◌, ◌<◌, ◌+◌, ◌-◌, get_or, ℕ, zero, suc, List, [], ◌∷◌, ◌++◌, length, map, slice_get, Some, refl, sym, ◌∙◌, ap, arith, append-nil, length-append, add-one}
+use Rattle.std.specs.List.{All, range_with_len}
+use Rattle.std.proofs.Math.Nat.{add-zero}
 use Rattle.std.proofs.lemmas.List.Elements.{All-nil, All-cons, All-head, All-tail}
 use Rattle.std.proofs.lemmas.Option.{get_or_from_slice_get}
 use Rattle.venue_words.specs.Floors.{FloorMark, Setup}
@@ -56,6 +57,21 @@ all_of all done (x ∷ rest) is none = absurd (omega (arith, none))
 -- a list with one more
 pub length_push : {A : Type 0} (xs ys : List A) (x : A) → ys ≡ xs ++ x ∷ [] → length ys ≡ length xs + 1
 length_push xs ys x is = omega (arith, ap length is, length-append xs (x ∷ []))
+
+-- ---- numbers
+
+range_more : (a n : ℕ) → range_with_len a (suc n) ≡ range_with_len a n ++ (a + n) ∷ []
+range_more a zero = ap (λ (k : ℕ). k ∷ []) (sym (add-zero a))
+range_more a (suc n) =
+    let e : (a + 1) + n ≡ a + suc n = omega arith in
+    ap (λ (xs : List ℕ). a ∷ xs) (range_more (a + 1) n ∙ ap (λ (k : ℕ). range_with_len (a + 1) n ++ k ∷ []) e)
+
+-- one more with the next number
+pub numbered_next : (numbers : List ℕ) (n k : ℕ) → numbers ≡ range_with_len 0 n → k ≡ n → numbers ++ k ∷ [] ≡ range_with_len 0 (n + 1)
+numbered_next numbers n k are is =
+    let e : 0 + n ≡ k = omega arith in
+    ap (λ (xs : List ℕ). xs ++ k ∷ []) are ∙ ap (λ (j : ℕ). range_with_len 0 n ++ j ∷ []) (sym e) ∙ sym (range_more 0 n)
+    ∙ ap (range_with_len 0) (sym (add-one n))
 
 -- ---- tasks
 

@@ -15,7 +15,7 @@ pub fn join_all<'a, R: Wait, V: Held + Drop>(
     seats: &mut Seats,
     finished: Vec<Finished<Seated<'a, R, V>>>,
 ) -> Outcome
-    requires few { length finished.items ≤ 65 }
+    requires few { length finished.items ≤ 66 }
     requires seats { HasSeats venue.now (whole - length finished.items) seats.old }
     requires others { All (λ one. HasSeats venue.now 1 one.floor.seats) finished.items }
     ensures { HasSeats venue.now whole seats.new }

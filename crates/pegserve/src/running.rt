@@ -1,32 +1,38 @@
 //! A run of the server.
-ghost use Rattle.std.specs.Prelude.{◌≡◌, ℕ, ◌≤◌, ◌<◌, length, vec_len, slice_index_or, IfOk, OnErr, OnOk};
+ghost use Rattle.std.specs.Prelude.{◌≡◌, ℕ, ◌≤◌, ◌<◌, length, vec_len, option_map, slice_index_or, IfOk, IfSome, OnErr, OnOk};
 ghost use Rattle.std.specs.List.{All};
 ghost use Rattle.venue_words.specs.Causes.{Rose};
 ghost use Rattle.venue_words.specs.Conditions.{IsConfig};
 ghost use Rattle.venue_words.specs.Floors.{setup_of};
 ghost use Rattle.turn_gate.specs.Rule.{whole};
 ghost use Rattle.serve_core.specs.Statuses.{exit_code};
+ghost use Rattle.drop_copy.specs.Desks.{AreConfigured};
 ghost use Rattle.venue_core.specs.Venues.{setup_in};
 ghost use Rattle.pegserve.specs.Ending.{Ends, IsTold, status_of_words};
 ghost use Rattle.pegserve.specs.Listed.{Lists};
 ghost use Rattle.pegserve.specs.Seating.{HasSeats};
 
+use crate::asking::{Copies, Setup, set_up};
 use crate::closing::close_and_list;
+use crate::copying::CopySession;
+use crate::hints::{CONFIG, QUOTES, hint_of};
 use crate::joining::join_all;
-use crate::splitting::jobs_of;
-use crate::workers::{Finished, Job, Outcome, Shared, serve_next, submit_quotes};
+use crate::splitting::jobs_and_last;
+use crate::workers::{Outcome, Shared};
+use crate::working::work_all;
 use io_edge::{FileShelf, Sink};
 use line_reader::tell;
 use member_gate::{DeskCell, DeskTable, desks_of};
 use program_words::WordFault;
 use serve_core::status::{status_of_quotes, status_of_setup};
-use serve_core::{QuoteEnd, ServePlan, ServeStatus, exit_code, serve_setup};
+use serve_core::{QuoteEnd, ServePlan, ServeStatus, exit_code};
 use socket_edge::bells_of;
 use std::alloc::Global;
 use std::net::{Net, TcpListener, TcpStream};
 use std::rt;
 use std::sync::Wait;
-use std::thread::{Threads, join, map_vec};
+use std::sync::atomic::AtomicBool;
+use std::thread::Threads;
 use symbol_book::{Book, HashSeed};
 use venue_core::{Seated, Seats, Venue, make};
 use venue_words::{Config, Floor, Held, NoMemory};
@@ -54,95 +60,33 @@ fn desk_cell(alloc: Global, config: &Config) -> Result<DeskCell, NoMemory>
     Ok(DeskCell::new(DeskTable::new(alloc, desks)?))
 }
 
-/// Serves all connections at once. What came of each stands at its place.
-fn work_links<R: Threads + Wait + Sync + rt::Clock, F: Floor + Send + Drop>(
-    shared: &Shared<'_, R>,
-    jobs: Vec<Job<F>>,
-) -> Result<Vec<Finished<F>>, NoMemory>
-    requires config { IsConfig shared.now.config.now }
-    requires desks { shared.now.cell.now ≡ length shared.now.config.now.members }
-    requires setup { All (λ job. (F.mark job.floor).setup ≡ setup_of shared.now.config.now) jobs.items }
-    ensures count { IfOk result (λ finished. vec_len finished ≡ vec_len jobs) }
-    ensures each { IfOk result (λ finished. (k : ℕ) (job one : _) → k < vec_len jobs
-        → job ≡ slice_index_or jobs.items k job → one ≡ slice_index_or finished.items k one
-        → F.mark one.floor ≡ F.mark job.floor) }
-{
-    let finished = map_vec(
-        shared.rt,
-        jobs,
-        &|job: Job<F>| -> Finished<F>
-            requires { IsConfig shared.now.config.now
-                × (shared.now.cell.now ≡ length shared.now.config.now.members)
-                × ((F.mark job.floor).setup ≡ setup_of shared.now.config.now) }
-            ensures { F.mark result.floor ≡ F.mark job.floor }
-        { serve_next(shared, job) },
-    );
-    match finished {
-        Ok(finished) => Ok(finished),
-        Err(_) => Err(NoMemory),
-    }
-}
-
-/// Serves all connections and submits the quotes, at once. The quotes' task comes last.
-fn work_all<R: Threads + Wait + Sync + rt::Clock, F: Floor + Send + Drop>(
-    shared: &Shared<'_, R>,
-    jobs: Vec<Job<F>>,
-    quoting: F,
-) -> Result<(Vec<Finished<F>>, Finished<F>), NoMemory>
-    requires config { IsConfig shared.now.config.now }
-    requires desks { shared.now.cell.now ≡ length shared.now.config.now.members }
-    requires setup { All (λ job. (F.mark job.floor).setup ≡ setup_of shared.now.config.now) jobs.items }
-    requires quotes { (F.mark quoting).setup ≡ setup_of shared.now.config.now }
-    ensures count { IfOk result (λ finished. vec_len finished.0 ≡ vec_len jobs) }
-    ensures each { IfOk result (λ finished. (k : ℕ) (job one : _) → k < vec_len jobs
-        → job ≡ slice_index_or jobs.items k job → one ≡ slice_index_or finished.0.items k one
-        → F.mark one.floor ≡ F.mark job.floor) }
-    ensures quoted { IfOk result (λ finished. F.mark finished.1.floor ≡ F.mark quoting) }
-{
-    let (links, quoted) = join(
-        shared.rt,
-        move || -> Result<Vec<Finished<F>>, NoMemory>
-            requires { IsConfig shared.now.config.now
-                × (shared.now.cell.now ≡ length shared.now.config.now.members)
-                × All (λ job. (F.mark job.floor).setup ≡ setup_of shared.now.config.now) jobs.items }
-            ensures count { IfOk result (λ finished. vec_len finished ≡ vec_len jobs) }
-            ensures each { IfOk result (λ finished. (k : ℕ) (job one : _) → k < vec_len jobs
-                → job ≡ slice_index_or jobs.items k job → one ≡ slice_index_or finished.items k one
-                → F.mark one.floor ≡ F.mark job.floor) }
-        { work_links(shared, jobs) },
-        move || -> Finished<F>
-            requires { IsConfig shared.now.config.now
-                × ((F.mark quoting).setup ≡ setup_of shared.now.config.now) }
-            ensures { F.mark result.floor ≡ F.mark quoting }
-        { submit_quotes(shared, quoting) },
-    );
-    match links {
-        Ok(finished) => Ok((finished, quoted)),
-        Err(_) => Err(NoMemory),
-    }
-}
-
-/// Serves all connections of a venue and submits the quotes, through seats that are split off these and joined again.
+/// Serves all connections of a venue and the drop session, and submits the quotes, through seats that are split off these and
+/// joined again.
 fn serve_all<R: Threads + Wait + Sync + rt::Clock, V: Held + Drop + Send>(
     rt: &R,
     server: &Server<'_, '_>,
     venue: &Venue<V>,
     seats: &mut Seats,
+    session: Option<CopySession>,
 ) -> Result<Outcome, NoMemory>
     requires config { IsConfig server.now.config.now }
     requires few { server.now.plan.now.connections ≤ 64 }
     requires seats { HasSeats venue.now whole seats.old }
     requires setup { setup_in venue.now ≡ setup_of server.now.config.now }
+    requires members { IfSome session (λ session. AreConfigured session.desk.members server.now.config.now) }
     ensures { OnOk result (HasSeats venue.now whole seats.new) }
 {
     let cell = desk_cell(server.alloc, server.config)?;
-    let (bells, inboxes) = bells_of(server.alloc, server.plan.connections as usize)?;
-    let jobs = jobs_of(rt, server.alloc, venue, seats, inboxes)?;
+    // One more than there are connections, for the drop session.
+    let count = server.plan.connections as usize + 1;
+    let (bells, inboxes) = bells_of(server.alloc, count)?;
+    let (jobs, copying) = jobs_and_last(rt, server.alloc, venue, seats, inboxes)?;
     let quoting = Seated {
         rt,
         venue,
         seats: venue.split(server.alloc, seats)?,
     };
+    let done = AtomicBool::new(false);
     let shared = Shared {
         rt,
         alloc: server.alloc,
@@ -150,29 +94,34 @@ fn serve_all<R: Threads + Wait + Sync + rt::Clock, V: Held + Drop + Send>(
         listener: server.listener,
         cell: &cell,
         bells: &bells,
+        last: copying.number,
+        done: &done,
         system: server.system,
         quotes: server.plan.quotes.as_ref().map(|name| name.as_str()),
     };
-    let (links, quoted) = work_all(&shared, jobs, quoting)?;
+    let (links, quoted, copied) = work_all(&shared, jobs, quoting, session, copying)?;
     let mut finished = links;
     finished.push(quoted)?;
+    finished.push(copied)?;
     Ok(join_all(venue, seats, finished))
 }
 
-/// Serves all connections of a venue of books, and submits the quotes: see `serve_all`.
+/// Serves a venue of books: see `serve_all`.
 fn serve_books<R: Threads + Wait + Sync + rt::Clock>(
     rt: &R,
     server: &Server<'_, '_>,
     venue: &Venue<Book>,
     seats: &mut Seats,
+    session: Option<CopySession>,
 ) -> Result<Outcome, NoMemory>
     requires config { IsConfig server.now.config.now }
     requires few { server.now.plan.now.connections ≤ 64 }
     requires seats { HasSeats venue.now whole seats.old }
     requires setup { setup_in venue.now ≡ setup_of server.now.config.now }
+    requires members { IfSome session (λ session. AreConfigured session.desk.members server.now.config.now) }
     ensures { OnOk result (HasSeats venue.now whole seats.new) }
 {
-    serve_all(rt, server, venue, seats)
+    serve_all(rt, server, venue, seats, session)
 }
 
 /// The status of a run whose tasks came to this and whose listing ended so. What went wrong first is told.
@@ -191,14 +140,16 @@ fn status_of<'c>(
     }
 }
 
-/// Serves the venue at the listener's address, and lists its journals.
+/// Serves the venue at the listener's address, and the drop session at its own, if there is one, and lists the journals.
 pub fn serve<'c, R: Threads + Wait + Sync + rt::Clock, K: Sink>(
     rt: &R,
     server: &Server<'_, 'c>,
+    session: Option<CopySession>,
     out: &mut K,
 ) -> Result<ServeStatus<'c>, NoMemory>
     requires config { IsConfig server.now.config.now }
     requires few { server.now.plan.now.connections ≤ 64 }
+    requires members { IfSome session (λ session. AreConfigured session.desk.members server.now.config.now) }
     ensures listed { IfOk result (λ status. Lists server.now.config.now status (K.told out.old) (K.told out.new)) }
     ensures err { OnErr result (K.told out.new ≡ K.told out.old) }
     ensures later { K.faults out.old ≤ K.faults out.new }
@@ -209,7 +160,7 @@ pub fn serve<'c, R: Threads + Wait + Sync + rt::Clock, K: Sink>(
         HashSeed::random(server.system)?,
         server.config,
     )?;
-    let outcome = serve_books(rt, server, &venue, &mut seats)?;
+    let outcome = serve_books(rt, server, &venue, &mut seats, session)?;
     let listed = close_and_list(server.alloc, server.config, venue, seats, out);
     Ok(status_of(outcome, server.config, listed))
 }
@@ -233,21 +184,38 @@ pub fn refuse_words<E: Sink>(fault: WordFault, err: &mut E) -> u8
     }
 }
 
-/// Takes connections at the plan's address, serves the venue there, and lists its journals.
+/// Takes the drop session's connection at its address from now on, if there is one. Where it can't be taken there is none either.
+fn listen_for_copies<R: Net<Listener = TcpListener, Stream = TcpStream>>(
+    rt: &R,
+    copies: Option<Copies>,
+) -> Result<Option<CopySession>, ()>
+    ensures { IfOk result (λ session. option_map (λ session. session.desk) session ≡ option_map (λ copies. copies.desk) copies) }
+{
+    let Some(Copies { address, desk }) = copies else {
+        return Ok(None);
+    };
+    match TcpListener::bind(rt, address.as_str()) {
+        Ok(listener) => Ok(Some(CopySession { listener, desk })),
+        Err(_) => Err(()),
+    }
+}
+
+/// Takes connections at the plan's address and the drop session's, serves the venue there, and lists its journals.
 fn listen<
     'c,
     R: Threads + Wait + Sync + rt::Clock + Net<Listener = TcpListener, Stream = TcpStream>,
     K: Sink,
 >(
-    rt: &'c R,
-    system: &'c HostRuntime,
-    alloc: Global,
-    plan: &'c ServePlan,
+    rt: &R,
+    system: &HostRuntime,
+    plan: &ServePlan,
     config: &'c Config,
+    copies: Option<Copies>,
     out: &mut K,
 ) -> ServeStatus<'c>
     requires config { IsConfig config.now }
     requires few { plan.now.connections ≤ 64 }
+    requires members { IfSome copies (λ copies. AreConfigured copies.desk.members config.now) }
     ensures listed { Lists config.now result (K.told out.old) (K.told out.new) }
     ensures later { K.faults out.old ≤ K.faults out.new }
     ensures fault { result ≡ ServeStatus.WriteFault → Rose (K.faults out.old) (K.faults out.new) }
@@ -256,21 +224,24 @@ fn listen<
         Ok(listener) => listener,
         Err(_) => return ServeStatus::ListenFault,
     };
+    let Ok(session) = listen_for_copies(rt, copies) else {
+        return ServeStatus::ListenFault;
+    };
     let server = Server {
-        alloc,
+        alloc: system.alloc(),
         plan,
         config,
         listener: &listener,
         system,
     };
-    match serve(rt, &server, out) {
+    match serve(rt, &server, session, out) {
         Ok(status) => status,
         Err(_) => ServeStatus::NoMemory,
     }
 }
 
 /// Serves what the words ask for, puts the listing of the journals to `out` and the text of the status that ends the run to
-/// `err`, and gives the exit status. The words are those behind the program's name.
+/// `err`, and gives the exit status. The words are those behind the program's name. A person at a terminal is told more.
 pub fn run<
     R: Threads + Wait + Sync + rt::Clock + Net<Listener = TcpListener, Stream = TcpStream>,
     K: Sink,
@@ -280,9 +251,24 @@ pub fn run<
         (E.faults err.old) (E.faults err.new) }
     ensures fault { result ≡ 6 → Rose (K.faults out.old) (K.faults out.new) }
 {
-    let alloc = system.alloc();
-    match serve_setup(alloc, words, &mut FileShelf::new(system)) {
-        Ok((plan, config)) => end_with(listen(rt, system, alloc, &plan, &config, out), err),
-        Err(fault) => end_with(status_of_setup(fault), err),
+    match set_up(system.alloc(), words, &mut FileShelf::new(system)) {
+        Ok(
+            Setup {
+                plan,
+                config,
+                copies,
+            },
+        ) => {
+            let status = listen(rt, system, &plan, &config, copies, out);
+            let exit = end_with(status, err);
+            hint_of(status, words, QUOTES).show(system);
+            exit
+        }
+        Err(fault) => {
+            let status = status_of_setup(fault);
+            let exit = end_with(status, err);
+            hint_of(status, words, CONFIG).show(system);
+            exit
+        }
     }
 }

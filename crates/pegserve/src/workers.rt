@@ -13,6 +13,7 @@ use std::alloc::Global;
 use std::net::{Shutdown, TcpListener, TcpStream};
 use std::rt;
 use std::sync::Wait;
+use std::sync::atomic::{AtomicBool, Ordering};
 use std::thread::{Threads, join};
 use std::time::Duration;
 use venue_words::{Config, Floor};
@@ -29,6 +30,10 @@ pub struct Shared<'a, R> {
     pub listener: &'a TcpListener,
     pub cell: &'a DeskCell,
     pub bells: &'a Bells,
+    /// The number of the drop session's bell, behind those of all connections.
+    pub last: usize,
+    /// All connections of members have ended, and the quotes are through.
+    pub done: &'a AtomicBool,
     /// Where files are read.
     pub system: &'a HostRuntime,
     /// The name of the file of quotes.
@@ -67,6 +72,22 @@ impl Outcome {
 pub struct Finished<F> {
     pub floor: F,
     pub outcome: Outcome,
+}
+
+impl<'a, R: Wait> Shared<'a, R> {
+    /// The venue is done: the drop session is told what it was not told yet, and ends, and its connection is waited for no more.
+    pub fn finish(&self) {
+        self.done.store(true, Ordering::SeqCst);
+        self.bells.end(self.rt, self.last);
+    }
+}
+
+/// Sets a socket up: what is written goes at once, and waits no longer than a peer may be slow.
+pub fn prepare(stream: &TcpStream) {
+    let _ = stream.set_nodelay(true).is_ok();
+    let _ = stream
+        .set_write_timeout(Some(Duration::from_secs(WRITE_SECONDS)))
+        .is_ok();
 }
 
 /// Serves a connection over its socket, and shuts the socket down, which ends the thread that reads it.
@@ -125,10 +146,7 @@ pub fn serve_next<R: Threads + Wait + Sync + rt::Clock, F: Floor + Send + Drop>(
             };
         }
     };
-    let _ = stream.set_nodelay(true).is_ok();
-    let _ = stream
-        .set_write_timeout(Some(Duration::from_secs(WRITE_SECONDS)))
-        .is_ok();
+    prepare(&stream);
     let socket = &stream;
     let number = job.number;
     let (_, floor) = join(

@@ -69,6 +69,13 @@ impl Bells {
         false
     }
 
+    /// Ends a link from this side: its thread takes one more turn, and then finds the end, as if the peer gave no more. What
+    /// finds no memory is dropped, and the link then fails.
+    pub fn end<R: Wait>(&self, rt: &R, link: usize) {
+        let _ = self.hand(rt, link, Message::Ring);
+        let _ = self.hand(rt, link, Message::End);
+    }
+
     /// Rings all links but this one. A ring that finds no memory is dropped.
     pub(crate) fn ring_others<R: Wait>(&self, rt: &R, link: usize) {
         for (other, bell) in self.list.iter().enumerate() {

@@ -11,6 +11,6 @@ abbrev pub invariant-loop-one : goal.invariant-loop-one
 invariant-loop-one g l =
     AreSeatsOf l.venue l.seats
     × HaveParts (whole - length l.one-iterator.rest.items) l.seats
-    × (length l.one-iterator.rest.items ≤ 65)
+    × (length l.one-iterator.rest.items ≤ 66)
     × (length l.one-iterator.rest.items ≡ l.one-iterator.rest.len)
     × All (λ one. HasSeats l.venue 1 one.floor.seats) l.one-iterator.rest.items

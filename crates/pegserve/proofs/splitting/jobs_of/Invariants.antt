@@ -1,6 +1,6 @@
 -- So many floors were made, for the first inboxes.
-use Rattle.std.proofs.Common.{◌≡◌, ◌-◌, ◌++◌, length}
-use Rattle.std.specs.List.{All}
+use Rattle.std.proofs.Common.{◌≡◌, ◌-◌, ◌++◌, length, map}
+use Rattle.std.specs.List.{All, range_with_len}
 use Rattle.turn_gate.specs.Rule.{whole}
 use Rattle.pegserve.specs.Seating.{HasSeats}
 use Rattle.pegserve.proofs.splitting.jobs_of.Given as goal
@@ -12,3 +12,5 @@ invariant-loop-inbox g l =
     × All (λ job. (job.floor.venue.now ≡ l.venue) × HasSeats l.venue 1 job.floor.seats) l.jobs.items
     × (l.fn.inboxes.items ≡ l.yielded ++ l.inbox-iterator.rest.items)
     × (length l.inbox-iterator.rest.items ≡ l.inbox-iterator.rest.len)
+    × (map (λ job. job.number) l.jobs.items ≡ range_with_len 0 (length l.yielded))
+    × (map (λ job. job.inbox) l.jobs.items ≡ l.yielded)
