@@ -1,0 +1,14 @@
+pub mod Contents
+pub mod Cutting
+pub mod FirstFaults
+pub mod Garbage
+pub mod Heads
+pub mod Lengths
+pub mod Numbering
+pub mod Passing
+pub mod Places
+pub mod Planning
+pub mod Recording
+pub mod Remembering
+pub mod Stepping
+pub mod Turning
