@@ -1,0 +1,6 @@
+//! Trials of the auditor of listings: a listing with a line changed, and one with each of its bytes changed in turn. All of it is
+//! tests.
+#![tactic(auto)]
+
+#[cfg(test)]
+mod tests;

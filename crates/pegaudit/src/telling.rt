@@ -1,0 +1,155 @@
+//! What is told of an audit.
+use audit_core::{AuditFault, AuditFiles, AuditRefusal, Verdict};
+use line_reader::ConfigFault;
+use std::io::{self, Write};
+use terminal_hints::Hint;
+use venue_words::Bytes;
+
+/// How the program ends.
+#[derive(Clone, Copy, Debug, PartialEq, Eq)]
+pub enum Exit {
+    /// The listing is the one of its own events, or help was put.
+    Done,
+    /// A line of the listing differs.
+    Differs,
+    BadWords,
+    BadLine,
+    Limit,
+    ReadFault,
+    WriteFault,
+    NoMemory,
+}
+
+impl Exit {
+    /// Its status.
+    pub fn code(self) -> u8 {
+        match self {
+            Exit::Done => 0,
+            Exit::Differs => 1,
+            Exit::BadWords => 2,
+            Exit::BadLine => 3,
+            Exit::Limit => 4,
+            Exit::ReadFault => 5,
+            Exit::WriteFault => 6,
+            Exit::NoMemory => 7,
+        }
+    }
+
+    /// Tells of the ends that no file is the cause of.
+    pub fn tell(self, rt: &HostRuntime) {
+        let text = match self {
+            Exit::WriteFault => "write fault",
+            Exit::NoMemory => "out of memory",
+            _ => return,
+        };
+        let _told = eprintln!(rt; "pegaudit: {text}");
+    }
+}
+
+/// The exit, or a write fault where the text was not put.
+fn told(put: io::Result<()>, exit: Exit) -> Exit {
+    match put {
+        Ok(()) => exit,
+        Err(_) => Exit::WriteFault,
+    }
+}
+
+/// Puts the line that should stand there.
+fn put_expected(rt: &HostRuntime, expected: &Bytes) -> io::Result<()> {
+    let mut out = rt.stdout();
+    out.write_all(b"expected: ")?;
+    out.write_all(expected.as_slice())?;
+    out.write_all(b"\n")
+}
+
+/// Tells a verdict.
+pub fn tell_verdict(rt: &HostRuntime, files: AuditFiles<'_>, verdict: Verdict) -> Exit {
+    let listing = files.listing;
+    match verdict {
+        Verdict::Same => told(println!(rt; "{listing}: same"), Exit::Done),
+        Verdict::Differs { line, expected } => {
+            let exit = told(
+                println!(rt; "{listing}: line {line} differs"),
+                Exit::Differs,
+            );
+            match expected {
+                Some(text) if exit == Exit::Differs => told(put_expected(rt, &text), exit),
+                _ => exit,
+            }
+        }
+    }
+}
+
+/// Tells that one of the files could not be read, and at a terminal why.
+fn tell_unread(rt: &HostRuntime, files: AuditFiles<'_>, name: &str) -> Exit {
+    let exit = told(
+        eprintln!(rt; "pegaudit: {name}: could not be read"),
+        Exit::ReadFault,
+    );
+    Hint::UnreadOf(files.config, files.listing).show(rt);
+    exit
+}
+
+/// Tells why a config was not read.
+fn tell_config_fault(rt: &HostRuntime, files: AuditFiles<'_>, fault: ConfigFault) -> Exit {
+    let name = files.config;
+    match fault {
+        ConfigFault::Bad { line, cause } => {
+            let exit = told(
+                eprintln!(rt; "pegaudit: {name}: line {line}: {cause}"),
+                Exit::BadLine,
+            );
+            Hint::BadLine {
+                file: name,
+                line,
+                cause,
+            }
+            .show(rt);
+            exit
+        }
+        ConfigFault::Limit { line, which } => {
+            let exit = told(
+                eprintln!(rt; "pegaudit: {name}: line {line}: limit {which}"),
+                Exit::Limit,
+            );
+            Hint::LimitLine {
+                file: name,
+                line,
+                which,
+            }
+            .show(rt);
+            exit
+        }
+        ConfigFault::ReadFault => tell_unread(rt, files, name),
+        ConfigFault::NoMemory => Exit::NoMemory,
+    }
+}
+
+/// Tells why a listing was not read to its end.
+fn tell_fault(rt: &HostRuntime, files: AuditFiles<'_>, fault: AuditFault) -> Exit {
+    let name = files.listing;
+    match fault {
+        AuditFault::ReadFault => tell_unread(rt, files, name),
+        AuditFault::TooLarge => told(
+            eprintln!(rt; "pegaudit: {name}: more than 2147483647 bytes"),
+            Exit::Limit,
+        ),
+        AuditFault::LongLine { line } => told(
+            eprintln!(rt; "pegaudit: {name}: line {line}: limit Line"),
+            Exit::Limit,
+        ),
+        AuditFault::NoMemory => Exit::NoMemory,
+    }
+}
+
+/// Tells why there is no verdict.
+pub fn tell_refusal(rt: &HostRuntime, files: AuditFiles<'_>, refusal: AuditRefusal) -> Exit {
+    match refusal {
+        AuditRefusal::Config(fault) => tell_config_fault(rt, files, fault),
+        AuditRefusal::SplitName => told(
+            eprintln!(rt; "pegaudit: {}: a name has a space or an LF", files.config),
+            Exit::BadLine,
+        ),
+        AuditRefusal::Listing(fault) => tell_fault(rt, files, fault),
+    }
+}
