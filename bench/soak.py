@@ -23,7 +23,10 @@ PORT = 17200
 class Member:
     """What one member does."""
 
-    def __init__(self, number, chance):
+    def __init__(self, number, chance, seconds):
+        # A connection is dropped when it has had about its share of the time, so that the last one lasts to the end.
+        self.share = seconds / LIVES
+        self.until = self.back = 0.0
         self.client = Client(f"M{number}", ("127.0.0.1", PORT))
         self.chance = chance
         self.lives = LIVES
@@ -34,6 +37,7 @@ class Member:
         self.client.connect()
         self.client.logon()
         self.lives -= 1
+        self.until = time.monotonic() + self.share * self.chance.uniform(0.5, 1)
 
     def fresh(self):
         self.ids += 1
@@ -62,7 +66,7 @@ class Member:
             self.orders[place] = (own, symbol, side)
         elif kind < 0.99:
             client.send(bytes(chance.randrange(256) for _ in range(chance.randrange(40))))
-        elif self.lives:
+        elif self.lives and self.until < time.monotonic():
             client.send(client.order(b"lost", b"S0", b"1", 100)[:chance.randrange(10, 60)])
             client.next_out -= 1
             client.close()
@@ -78,17 +82,20 @@ def run(seconds, seed, folder):
     venue = subprocess.Popen(["bin/pegserve", config, f"127.0.0.1:{PORT}", str(MEMBERS * LIVES), quotes], stdout=listing)
     time.sleep(1)
     chance = random.Random(seed)
-    members = [Member(k, chance) for k in range(MEMBERS)]
+    members = [Member(k, chance, seconds) for k in range(MEMBERS)]
     end = time.monotonic() + seconds
     while time.monotonic() < end:
         for member in members:
             if member.client.connection is None:
-                if member.lives:
+                if member.lives and member.back < time.monotonic():
                     member.begin()
                 continue
             member.client.receive()
             if member.client.connection and member.client.up:
                 member.act()
+            if member.client.connection is None:
+                # The venue ends the old connection first: a member has one at a time.
+                member.back = time.monotonic() + 0.5
         time.sleep(0.001)
     # Each member comes once more for what it missed, and leaves; the lives that are left are used up.
     for member in members:
