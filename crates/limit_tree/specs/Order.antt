@@ -1,5 +1,5 @@
 -- Rows in the order of their caps, and of their entries where these are equal.
-use Rattle.std.specs.Prelude.{◌≡◌, ◌≢◌, ℕ, ◌+◌, ◌*◌, ◌^◌, ◌<◌, List, [], ◌∷◌, min, nat_lt, ◌==◌, ◌&&◌, ◌||◌, Bool, true, false, Option, Some, None, if◌then◌else◌}
+use Rattle.std.specs.Prelude.{◌≡◌, ◌≢◌, ℕ, ◌+◌, ◌*◌, ◌^◌, ◌<◌, List, [], ◌∷◌, min, max, nat_lt, ◌==◌, ◌&&◌, ◌||◌, Bool, true, false, Option, Some, None, if◌then◌else◌}
 use Rattle.std.specs.List.{AllByRecursion}
 use Rattle.venue_words.specs.declared.row.Row.{Row}
 
@@ -52,6 +52,11 @@ is_held cap entry (row ∷ rows) = row.cap == cap && row.entry == entry || is_he
 abbrev pub least_entry : List Row → ℕ
 least_entry [] = 4294967295
 least_entry (row ∷ rows) = min row.entry (least_entry rows)
+
+-- the greatest cap, and 0 where there is no row
+abbrev pub highest_cap : List Row → ℕ
+highest_cap [] = 0
+highest_cap (row ∷ rows) = max row.cap (highest_cap rows)
 
 -- whether there is no row
 abbrev pub is_empty : List Row → Bool

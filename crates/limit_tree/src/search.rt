@@ -5,7 +5,7 @@ ghost use Rattle.std.specs.List.{AllByRecursion};
 ghost use Rattle.std.specs.Ordering.{MatchOrdering};
 ghost use Rattle.limit_tree.specs.Link.{link_rows, link_height};
 ghost use Rattle.limit_tree.specs.Looks.{FindsLeast, FindsLeastEntry, FindsGreatestCap, IsLeastWhere};
-ghost use Rattle.limit_tree.specs.Order.{rank, row_rank, IsAt, is_held};
+ghost use Rattle.limit_tree.specs.Order.{rank, row_rank, IsAt, highest_cap, is_held};
 
 use crate::node::{Node, least_of};
 use std::cmp::Ordering;
@@ -100,6 +100,22 @@ pub fn greatest_cap<L: Ledger>(
                     Some(cap) => Some(cap),
                 }
             }
+        }
+    }
+}
+
+/// The greatest cap of all, or 0 where there is no row.
+pub fn highest_in<L: Ledger>(link: &Option<Box<Node>>, steps: &mut Steps<L>) -> u32
+    ensures highest { result ≡ highest_cap (link_rows link.now) }
+    ensures ticks { steps.old + 1 ≤ steps.new }
+    ensures most { steps.new ≤ steps.old + link_height link.now + 1 }
+{
+    steps.tick();
+    match link {
+        None => 0,
+        Some(node) => {
+            let top: &Node = node;
+            highest_in(&top.right, steps).max(top.cap)
         }
     }
 }

@@ -1,13 +1,13 @@
 //! The rows of one group of orders.
 ghost use Rattle.std.specs.Prelude.{false, ◌≡◌, ◌+◌, ◌<◌, ◌≤◌, [], IfSome, option_map};
 ghost use Rattle.limit_tree.specs.Looks.{FindsLeast, FindsGreatestBelow};
-ghost use Rattle.limit_tree.specs.Order.{is_empty, IsFree, insert_row, without_row, row_at, is_held};
+ghost use Rattle.limit_tree.specs.Order.{is_empty, highest_cap, IsFree, insert_row, without_row, row_at, is_held};
 ghost use Rattle.limit_tree.specs.Part.{IsLeaf};
 
 use crate::insert::put_into;
 use crate::node::{Node, height_of};
 use crate::remove::cut_from;
-use crate::search::{cap_above, first_in, greatest_cap, is_in, least_above};
+use crate::search::{cap_above, first_in, greatest_cap, highest_in, is_in, least_above};
 use std::marker::Model;
 use std::sync::ledger::Ledger;
 use venue_words::Steps;
@@ -17,16 +17,22 @@ use venue_words::Steps;
 #[derive(Drop)]
 pub struct LimitTree {
     root: Option<Box<Node>>,
+    /// The greatest cap, or 0 where there is no row.
+    greatest: u32,
 }
 
 impl Model for LimitTree {
     ghost use Rattle.std.specs.Prelude.{List};
     ghost use Rattle.venue_words.specs.declared.row.Row.{Row};
+    ghost use Rattle.std.specs.Prelude.{◌≡◌};
     ghost use Rattle.limit_tree.specs.Link.{link_rows};
+    ghost use Rattle.limit_tree.specs.Order.{highest_cap};
 
     ghost Value = { List Row };
 
     ghost view = { λ t. link_rows t.root };
+
+    ghost invariant = { λ t. t.greatest ≡ highest_cap (link_rows t.root) };
 }
 
 impl LimitTree {
@@ -34,7 +40,17 @@ impl LimitTree {
     pub fn new() -> LimitTree
         ensures { result ≡ [] }
     {
-        LimitTree { root: None }
+        LimitTree {
+            root: None,
+            greatest: 0,
+        }
+    }
+
+    /// The greatest cap of a row, or 0 where there is no row. This visits no node.
+    pub fn greatest(&self) -> u32
+        ensures { result ≡ highest_cap self.now }
+    {
+        self.greatest
     }
 
     /// Whether there is no row.
@@ -61,7 +77,7 @@ impl LimitTree {
     {
         let root = self.root.take();
         let _height = height_of(&root);
-        let _row = node.cap;
+        self.greatest = self.greatest.max(node.cap);
         self.root = Some(put_into(root, node, steps));
     }
 
@@ -82,6 +98,9 @@ impl LimitTree {
         let _height = height_of(&root);
         let (rest, found) = cut_from(root, cap, entry, steps);
         self.root = rest;
+        if cap == self.greatest {
+            self.greatest = highest_in(&self.root, steps);
+        }
         found
     }
 

@@ -4,6 +4,7 @@ pub mod Enters
 pub mod Fewer
 pub mod Kept
 pub mod KeyCounts
+pub mod Looks
 pub mod Rechecks
 pub mod SetAside
 pub mod Stages

@@ -18,7 +18,7 @@ pub walk_none : (t : Priced) (left : ℕ) → walk t left [] ≡ []
 unfolding walk
 walk_none t left = refl
 
-walk_blocked : (t : Priced) (left : ℕ) (x : Priced) (xs : List Priced) → crosses t x ≡ false → walk t left (x ∷ xs) ≡ []
+pub walk_blocked : (t : Priced) (left : ℕ) (x : Priced) (xs : List Priced) → crosses t x ≡ false → walk t left (x ∷ xs) ≡ []
 unfolding walk
 walk_blocked t left x xs h = rw h refl
 

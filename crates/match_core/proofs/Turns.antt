@@ -34,7 +34,7 @@ crosses_less t x y active h k = go t.value x.value y.value active h k where
   go (Some v) None (Some u) a b d = let e = a.1 in cc
   go (Some v) (Some w) (Some u) a b d = lower_cross v u y.time y.row.entry w x.time x.row.entry b d
 
-none_crosses : (t : Priced) (rows : List Priced) → AllByRecursion (λ y. crosses t y ≡ false) rows → crosses_any t rows ≡ false
+pub none_crosses : (t : Priced) (rows : List Priced) → AllByRecursion (λ y. crosses t y ≡ false) rows → crosses_any t rows ≡ false
 unfolding crosses_any
 none_crosses t [] a = refl
 none_crosses t (y ∷ rows) a = rw a.0 (none_crosses t rows a.1)

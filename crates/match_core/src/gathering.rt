@@ -1,5 +1,6 @@
 //! The contras that a taker goes through are set aside.
 ghost use Rattle.std.specs.Prelude.{◌≡◌, ℕ, ◌+◌, ◌*◌, ◌<◌, ◌≤◌, [], length, false, Some, None, IfSome, IsNone, vec_len};
+ghost use Rattle.venue_words.specs.Price.{values_cross};
 ghost use Rattle.std.specs.List.{AllByRecursion};
 ghost use Rattle.std.specs.Vec.{vec_capacity};
 ghost use Rattle.venue_words.specs.Priority.{in_priority};
@@ -13,7 +14,7 @@ ghost use Rattle.match_core.specs.Aside.{taken_rows, IsAlone, Gathered, IsNext, 
 use min_quantity::may_fill;
 use peg_groups::{SideBook, Taken};
 use std::sync::ledger::Ledger;
-use venue_words::{Priced, Row, Steps};
+use venue_words::{PRICE_END, Priced, Row, Steps};
 
 /// A row that is out of its side, with its value and time.
 pub fn row_of(taken: &Taken) -> Priced
@@ -26,7 +27,17 @@ pub fn row_of(taken: &Taken) -> Priced
     }
 }
 
-/// Takes the first active row of a side out, where it crosses the taker.
+/// Whether rows of opposite sides with these values cross.
+pub fn values_cross(value: Option<u32>, other: Option<u32>) -> bool
+    ensures { result ≡ values_cross value other }
+{
+    match (value, other) {
+        (Some(value), Some(other)) => u64::from(PRICE_END) <= u64::from(value) + u64::from(other),
+        _ => false,
+    }
+}
+
+/// Takes the first active row of a side out, where it crosses the taker. No row is moved where none crosses.
 pub fn next_contra<S: SideBook, L: Ledger>(
     t: &Priced,
     other: &mut S,
@@ -46,21 +57,13 @@ pub fn next_contra<S: SideBook, L: Ledger>(
     ensures rows { (key : Key) → S.row_room other.old key → S.row_room other.new key }
     ensures moves { S.move_room other.old → S.move_room other.new }
     ensures width { S.width other.new ≡ S.width other.old }
-    ensures most { steps.new ≤ steps.old + 1536 * (S.width other.old + 1) }
+    ensures most_none { IsNone result → steps.new ≤ steps.old + S.width other.old }
     ensures most_next { IfSome result (λ _. steps.new ≤ steps.old + 1024 * (S.width other.old + 1)) }
 {
-    match other.take_best(steps) {
-        None => None,
-        Some(taken) => {
-            let contra = row_of(&taken);
-            if t.crosses(&contra) {
-                Some(taken)
-            } else {
-                other.put_back(taken, steps);
-                None
-            }
-        }
+    if !values_cross(t.value, other.best_value(steps)) {
+        return None;
     }
+    other.take_best(steps)
 }
 
 /// The shares that a taker with shares left takes from a row that is out of its side.
@@ -100,7 +103,7 @@ pub fn gather<S: SideBook, L: Ledger>(
     ensures width { S.width other.new ≡ S.width other.old }
     ensures capacity { vec_capacity aside.new ≡ vec_capacity aside.old }
     ensures most { steps.new ≤ steps.old + 1024 * (S.width other.old + 1) * length aside.new.items
-        + 1536 * (S.width other.old + 1) }
+        + S.width other.old }
 {
     let mut left = t.row.leaves;
     while left > 0 {

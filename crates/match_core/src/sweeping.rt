@@ -1,16 +1,18 @@
 //! The active rows of one side walk in turn.
-ghost use Rattle.std.specs.Prelude.{◌≡◌, ℕ, ◌+◌, ◌*◌, ◌<◌, ◌≤◌, true, false, [], length, vec_len};
+ghost use Rattle.std.specs.Prelude.{◌≡◌, ℕ, ◌+◌, ◌*◌, ◌<◌, ◌≤◌, true, false, None, [], length, vec_len};
 ghost use Rattle.std.specs.List.{AllByRecursion};
+ghost use Rattle.venue_words.specs.Price.{values_cross};
 ghost use Rattle.venue_words.specs.Priority.{in_priority};
 ghost use Rattle.venue_words.specs.declared.row.Key.{Key};
 ghost use Rattle.eager_meaning.specs.Recheck.{sweep};
 ghost use Rattle.eager_meaning.specs.Work.{examined_in_sweep};
+ghost use Rattle.peg_groups.specs.BestValue.{best_value};
 ghost use Rattle.peg_groups.specs.Side.{Standing, standing_of, taken_row};
 ghost use Rattle.match_core.specs.Aside.{HasLeaves, IsAlone};
 ghost use Rattle.match_core.specs.Rooms.{IsClear, HasRoom, IsAsRoomy};
 ghost use Rattle.match_core.specs.Sweeping.{IsStage, Turned, HasStageRoom, stage_of, sides_of, rest_of_work};
 
-use crate::gathering::row_of;
+use crate::gathering::{row_of, values_cross};
 use crate::scratch::Scratch;
 use crate::settling::{give_back, trade};
 use crate::walking::walk_in;
@@ -18,8 +20,22 @@ use peg_groups::SideBook;
 use std::sync::ledger::Ledger;
 use venue_words::Steps;
 
+/// Whether the first active rows of two sides cross, with every row left where it is. The other side isn't looked at
+/// where no row of the own one is active.
+fn sides_cross<S: SideBook, L: Ledger>(own: &S, other: &S, steps: &mut Steps<L>) -> bool
+    ensures crossed { result
+        ≡ values_cross (best_value (S.state own.now).rows) (best_value (S.state other.now).rows) }
+    ensures most { steps.new ≤ steps.old + S.width own.now + S.width other.now }
+    ensures most_idle { best_value (S.state own.now).rows ≡ None → steps.new ≤ steps.old + S.width own.now }
+{
+    match own.best_value(steps) {
+        None => false,
+        Some(value) => values_cross(Some(value), other.best_value(steps)),
+    }
+}
+
 /// The first active row of a side walks through the other one, and is set aside. Answers whether the sweep goes on:
-/// it ends where no row is active, and at a taker that goes through no contra.
+/// it ends where no row crosses one of the other side, and at a taker that goes through no contra.
 fn next_taker<S: SideBook, L: Ledger>(
     own: &mut S,
     other: &mut S,
@@ -65,6 +81,9 @@ fn next_taker<S: SideBook, L: Ledger>(
         (stage_of (S.state own.old).rows (S.state other.old).rows scratch.old)
         + 1024 * (S.width own.old + 1) }
 {
+    if !sides_cross(own, other, steps) {
+        return false;
+    }
     match own.take_best(steps) {
         None => false,
         Some(taken) => {

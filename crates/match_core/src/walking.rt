@@ -83,7 +83,10 @@ pub fn walk_in<S: SideBook, L: Ledger>(
     ensures width { S.width other.new ≡ S.width other.old }
     ensures capacity { vec_capacity aside.new ≡ vec_capacity aside.old }
     ensures fills_capacity { vec_capacity fills.new ≡ vec_capacity fills.old }
-    ensures most { steps.new ≤ steps.old + 1536 * (S.width other.old + 1) * examined_by t.now (S.state other.old).rows }
+
+    // One look at the other side is left over.
+    ensures most { steps.new + S.width other.old
+        ≤ steps.old + 1536 * (S.width other.old + 1) * examined_by t.now (S.state other.old).rows }
 {
     let left = gather(t, other, aside, steps);
     let total = t.row.leaves - left;

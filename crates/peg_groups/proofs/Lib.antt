@@ -1,5 +1,6 @@
 -- Lemmas on sides of a book.
 pub mod BestGroup
+pub mod BestValues
 pub mod Counting
 pub mod FlatBest
 pub mod FlatRows
@@ -12,6 +13,7 @@ pub mod KeyCounts
 pub mod Lists
 pub mod Mapped
 pub mod Merged
+pub mod NoPass
 pub mod Paired
 pub mod Pairs
 pub mod Positive

@@ -299,7 +299,7 @@ rows_used (e ∷ es) =
       | false ↦ λ h. ap (λ (all : List Priced). merged e.1.moves e.1.tree all) (rows_used es)
     ] refl
 
-each_used : (P : Key → Group → Type 0) (es : List (Key × Group)) → EachGroup P es → EachGroup P (filter is_used es)
+pub each_used : (P : Key → Group → Type 0) (es : List (Key × Group)) → EachGroup P es → EachGroup P (filter is_used es)
 each_used P [] a = tt
 each_used P (e ∷ es) a =
     elim (is_used e) as (λ b. EachGroup P (cond b (e ∷ filter is_used es) (filter is_used es))) [ true ↦ (a.0, each_used P es a.1) | false ↦ each_used P es a.1 ]

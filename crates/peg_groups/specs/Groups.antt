@@ -68,10 +68,20 @@ groups_state side = record { rows = rows_of side.entries; best = side.best; even
 pub record IsGroupSide (side : GroupsView) : Type 0 where
   pub groups : AreGroups side.best side.event side.entries
 
--- a side that also keeps the number of its rows
-pub record IsCounted (side : GroupsView) (len : ℕ) : Type 0 where
+-- each group has a row
+abbrev pub HaveRows : List (Key × Group) → Type 0
+HaveRows entries = EachGroup (λ _ group. is_empty group.tree ≡ false) entries
+
+-- each group has room for one move
+abbrev pub HaveRoom : List (Key × Group) → Type 0
+HaveRoom entries = EachGroup (λ _ group. 0 < group.moves.room) entries
+
+-- a side that also keeps the number of its rows, whether a group may be empty, and whether all have room
+pub record IsCounted (side : GroupsView) (len : ℕ) (some_empty all_roomy : Bool) : Type 0 where
   pub is : IsGroupSide side
   pub len_is : len ≡ length (rows_of side.entries)
+  pub used : some_empty ≡ false → HaveRows side.entries
+  pub roomy : all_roomy ≡ true → HaveRoom side.entries
 
 -- the group of the key has these moves
 abbrev pub HasMoves : Key → Staircase → List (Key × Group) → Type 0
@@ -81,10 +91,6 @@ HasMoves key moves (item ∷ entries) = ((item.0 ≡ key) × (item.1.moves ≡ m
 -- there is a group of the key
 abbrev pub HasGroup : Key → List (Key × Group) → Type 0
 HasGroup key entries = (moves : Staircase) × HasMoves key moves entries
-
--- each group has room for one move
-abbrev pub HaveRoom : List (Key × Group) → Type 0
-HaveRoom entries = EachGroup (λ _ group. 0 < group.moves.room) entries
 
 -- the group of the key prices a row of this cap and entry so
 pub record FitsGroup (entries : List (Key × Group)) (standing : Standing) : Type 0 where

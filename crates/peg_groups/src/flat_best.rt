@@ -2,10 +2,12 @@
 ghost use Rattle.std.specs.Prelude.{◌≡◌, ◌+◌, ◌<◌, Some, None, IsNone, IfSome, MatchOption, length, slice_get, slice_set, vec_len};
 ghost use Rattle.std.specs.List.{AllByRecursion};
 ghost use Rattle.std.specs.Vec.{vec_capacity};
-ghost use Rattle.peg_groups.specs.Flat.{IsThere, TakesOut, TakesBest, BestPlaceUpTo, place_before, place_value, without_node};
+ghost use Rattle.peg_groups.specs.BestValue.{best_value};
+ghost use Rattle.peg_groups.specs.Flat.{IsThere, TakesOut, TakesBest, BestPlaceUpTo, place_before, place_value, rows_in, without_node};
 ghost use Rattle.peg_groups.specs.declared.flat.Place.{Place};
 
 use crate::flat::{Place, find, place_at, take_at};
+use crate::looking::higher;
 use crate::side_book::Taken;
 use limit_tree::Node;
 use std::sync::ledger::Ledger;
@@ -74,6 +76,19 @@ fn best_place<L: Ledger>(places: &[Place], steps: &mut Steps<L>) -> Option<usize
     for i in 0..places.len() {
         steps.tick();
         best = better(places, i, best);
+    }
+    best
+}
+
+/// The greatest value of a row of all places. Each place is a step.
+pub fn best_of_places<L: Ledger>(places: &[Place], steps: &mut Steps<L>) -> Option<u32>
+    ensures value { result ≡ best_value (rows_in places.now) }
+    ensures ticks { steps.new ≡ steps.old + length places.now }
+{
+    let mut best = None;
+    for i in 0..places.len() {
+        steps.tick();
+        best = higher(best, place_at(places, i).active_value());
     }
     best
 }

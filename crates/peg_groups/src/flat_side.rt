@@ -9,7 +9,7 @@ ghost use Rattle.peg_groups.specs.KeyCount.{key_count};
 ghost use Rattle.peg_groups.specs.declared.flat.Place.{Place};
 
 use crate::flat::{Place, add_place, fill_at, find, find_kept, has_key, place_at, reprice_all};
-use crate::flat_best::{cut_place, take_first};
+use crate::flat_best::{best_of_places, cut_place, take_first};
 use crate::room::tick_each;
 use crate::side_book::{SideBook, Taken};
 use limit_tree::Node;
@@ -215,6 +215,10 @@ impl SideBook for FlatSide {
     ) -> Option<Box<Node>> {
         steps.tick();
         cut_place(&mut self.places, key, cap, entry)
+    }
+
+    fn best_value<L: Ledger>(&self, steps: &mut Steps<L>) -> Option<u32> {
+        best_of_places(self.places.as_slice(), steps)
     }
 
     fn take_best<L: Ledger>(&mut self, steps: &mut Steps<L>) -> Option<Taken> {

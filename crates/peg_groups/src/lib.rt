@@ -8,6 +8,7 @@ pub mod flat_side;
 pub mod group;
 pub mod group_side;
 mod groups;
+mod looking;
 mod pricing;
 mod room;
 pub mod side_book;

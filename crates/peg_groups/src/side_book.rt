@@ -8,6 +8,7 @@ ghost use Rattle.venue_words.specs.Retime.{reprice};
 ghost use Rattle.venue_words.specs.Rows.{IsAbsent, IsByEntry};
 ghost use Rattle.venue_words.specs.declared.row.Key.{Key};
 ghost use Rattle.venue_words.specs.declared.row.Priced.{Priced};
+ghost use Rattle.peg_groups.specs.BestValue.{best_value};
 ghost use Rattle.peg_groups.specs.KeyCount.{key_count};
 ghost use Rattle.peg_groups.specs.Side.{SideState, Standing, IsLaterThan, IsCut, IsHeldAt, NoneAt, entered, standing_of, taken_row, with_row, without};
 
@@ -34,7 +35,7 @@ pub trait SideBook {
     /// How wide the side is: how many things a call that goes over it may visit.
     ghost width: { Self → ℕ };
 
-    /// How many visits a pricing takes.
+    /// How many visits a pricing takes, and a look at the best value.
     ghost visits: { Self → ℕ };
 
     /// Which rows that are out of the side can be put back.
@@ -128,6 +129,13 @@ pub trait SideBook {
         ensures ticks { steps.old + 1 ≤ steps.new }
         ensures most { steps.new ≤ steps.old + 512 };
 
+    /// The greatest value of a row, with every row left where it is; none where no row is active.
+    fn best_value<L: Ledger>(&self, steps: &mut Steps<L>) -> Option<u32>
+        ensures by_entry { IsByEntry (state self.now).rows }
+        ensures value { result ≡ best_value (state self.now).rows }
+        ensures visits { steps.old + visits self.now ≤ steps.new }
+        ensures most { steps.new ≤ steps.old + width self.now };
+
     /// Takes the first active row by priority out; none where no row is active.
     fn take_best<L: Ledger>(&mut self, steps: &mut Steps<L>) -> Option<Taken>
         ensures by_entry { IsByEntry (state self.old).rows }
@@ -144,7 +152,7 @@ pub trait SideBook {
         ensures moves { move_room self.old → move_room self.new }
         ensures width { width self.new ≡ width self.old }
         ensures ticks { steps.old + 1 ≤ steps.new }
-        ensures most { steps.new ≤ steps.old + 1024 * (width self.old + 1) };
+        ensures most { steps.new ≤ steps.old + 960 * (width self.old + 1) };
 
     /// The value and the time of the row that has this key, cap and entry; none where no row has them.
     fn priced<L: Ledger>(

@@ -4,13 +4,31 @@ ghost use Rattle.std.specs.Prelude.{◌≡◌};
 use crate::hashing::HashSeed;
 use indexmap::IndexMap;
 use std::alloc::{AllocError, Global};
+use std::hash::{Hash, Hasher};
 use std::marker::Model;
 
 /// A ClOrdID(11) and the member that it is of.
-#[derive(PartialEq, Eq, Hash, Debug, Drop)]
+#[derive(PartialEq, Eq, Debug, Drop)]
 pub struct ClOrdId {
     pub member: u32,
     pub id: Vec<u8>,
+}
+
+/// The member's number, and the bytes of the id at once.
+impl Hash for ClOrdId {
+    ghost use Rattle.std.specs.Prelude.{◌∷◌, [], ◌++◌};
+    ghost use Rattle.std.proofs.Common.{rules};
+    ghost use Rattle.std.specs.Cmp.Rules.{hashing};
+    ghost use Rattle.std.specs.Hash as fed;
+
+    ghost hash_input = { λ i. fed.u32 i.member ++ i.id.items ∷ [] };
+
+    ghost respects_eq = { Prim.search (hashing, rules) };
+
+    fn hash<H: Hasher>(&self, state: &mut H) {
+        state.write_u32(self.member);
+        state.write(self.id.as_slice());
+    }
 }
 
 /// The ids that members used up, each with the number of the order that it was used for.

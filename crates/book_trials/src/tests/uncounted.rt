@@ -7,6 +7,7 @@ ghost use Rattle.venue_words.specs.Retime.{reprice};
 ghost use Rattle.venue_words.specs.Rows.{IsAbsent, IsByEntry};
 ghost use Rattle.venue_words.specs.declared.row.Key.{Key};
 ghost use Rattle.venue_words.specs.declared.row.Priced.{Priced};
+ghost use Rattle.peg_groups.specs.BestValue.{best_value};
 ghost use Rattle.peg_groups.specs.Side.{Standing, IsLaterThan, IsCut, IsHeldAt, NoneAt};
 ghost use Rattle.peg_groups.specs.Side.{entered, standing_of, taken_row, with_row, without};
 
@@ -18,8 +19,8 @@ use std::sync::ledger::{Blank, Ledger};
 use venue_words::{Best, Key, NoMemory, Steps};
 
 /// Any side, as one of which a book can be made. Its rows, values and times are those of the side that it hands each call on
-/// to, with a count of steps of that call's own; it ticks once itself. Its width is a number beside the side: one more for each
-/// key that room was made for, and the number of keys once it was narrowed.
+/// to, with a count of steps of that call's own; it ticks once itself, but not where it tells the best value. Its width is a
+/// number beside the side: one more for each key that room was made for, and the number of keys once it was narrowed.
 #[derive(Drop)]
 pub struct Uncounted<S: SideBook + Drop> {
     side: S,
@@ -92,6 +93,18 @@ fn cut_apart<S: SideBook, L: Ledger>(
 {
     let mut steps = Steps::<L>::start(blank);
     side.cut(key, cap, entry, &mut steps)
+}
+
+/// The greatest value of a row, with a count of its own.
+fn best_apart<S: SideBook, L: Ledger>(side: &S, blank: Blank) -> Option<u32>
+    requires name { blank.name ≡ L.name }
+    requires parts { blank.parts ≡ L.parts }
+    requires one { blank.parts ≡ 1 }
+    ensures by_entry { IsByEntry (S.state side.now).rows }
+    ensures value { result ≡ best_value (S.state side.now).rows }
+{
+    let mut steps = Steps::<L>::start(blank);
+    side.best_value(&mut steps)
 }
 
 /// Takes the first active row out, with a count of its own.
@@ -217,6 +230,10 @@ impl<S: SideBook + Drop> SideBook for Uncounted<S> {
     ) -> Option<Box<Node>> {
         steps.tick();
         cut_apart::<S, Brand>(&mut self.side, key, cap, entry, Blank::new(1))
+    }
+
+    fn best_value<L: Ledger>(&self, _steps: &mut Steps<L>) -> Option<u32> {
+        best_apart::<S, Brand>(&self.side, Blank::new(1))
     }
 
     fn take_best<L: Ledger>(&mut self, steps: &mut Steps<L>) -> Option<Taken> {

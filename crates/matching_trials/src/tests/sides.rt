@@ -47,6 +47,7 @@ struct Answer {
     found: Option<(u32, u32)>,
     value: Option<u32>,
     time: u32,
+    best: Option<u32>,
     rows: usize,
     keys: usize,
 }
@@ -215,7 +216,7 @@ fn leave<S: SideBook, L: Ledger>(
     }
 }
 
-/// The value and the time of the row of an event of the long run, and the sizes of the side.
+/// The value and the time of the row of an event of the long run, the best value of all rows, and the sizes of the side.
 fn seen<S: SideBook, L: Ledger>(
     side: &S,
     entry: u32,
@@ -234,6 +235,7 @@ fn seen<S: SideBook, L: Ledger>(
         found,
         value,
         time,
+        best: side.best_value(steps),
         rows: side.len(),
         keys: side.groups(),
     }

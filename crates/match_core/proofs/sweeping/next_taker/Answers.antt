@@ -4,9 +4,11 @@ use Rattle.venue_words.specs.ListLaws.{all_weaken}
 use Rattle.eager_meaning.specs.Matching.{takes_of}
 use Rattle.eager_meaning.specs.Recheck.{crosses_any}
 use Rattle.eager_meaning.specs.Work.{examined_by}
+use Rattle.peg_groups.specs.BestValue.{best_value}
 use Rattle.peg_groups.specs.Side.{SideState, Standing, standing_of, taken_row}
 use Rattle.match_core.specs.Aside.{taken_rows}
 use Rattle.match_core.specs.Sweeping.{Stage, Turned, HasStageRoom, stage_of, rest_of_work}
+use Rattle.match_core.proofs.Looks.{always_own, idle_most, looked, turned_idle}
 use Rattle.match_core.proofs.Rechecks.{turn_most, turn_done}
 use Rattle.match_core.proofs.SetAside.{first_out, taken_more}
 use Rattle.match_core.proofs.Stages.{Walks, taker_has, turned_some, turned_none, work_on, work_done, walks_by, shorter_by}
@@ -48,8 +50,8 @@ module _ (g : Over) (c : goal.After-push_reserved g) where
     tried = omega (arith, c.push_reserved.ensures.len, c.push_reserved.ensures.capacity, c.requires.room.tried, shorter_by walks);
   }
 
-  walk_steps : c.walk_in-walked.new.steps ≤ c.take_best.new.steps + 1536 * (g.S.SideBook.width c.args.other.now + 1) * examined_by (taken_row c.in-Some.taken) (g.S.SideBook.state c.args.other.now).rows
-  walk_steps = rw c.row_of-t.ensures at c.walk_in-walked.ensures.most
+  walk_steps : c.walk_in-walked.new.steps ≤ c.args.steps.now + 1024 * (g.S.SideBook.width c.args.own.now + 1) + 1536 * (g.S.SideBook.width c.args.other.now + 1) * examined_by (taken_row c.in-Some.taken) (g.S.SideBook.state c.args.other.now).rows
+  walk_steps = looked (g.S.SideBook.width c.args.own.now) (g.S.SideBook.width c.args.other.now) (1536 * (g.S.SideBook.width c.args.other.now + 1) * examined_by (taken_row c.in-Some.taken) (g.S.SideBook.state c.args.other.now).rows) c.args.steps.now c.sides_cross.new.steps c.take_best.new.steps c.walk_in-walked.new.steps c.sides_cross.ensures.most c.in-Some.ensures.most (rw c.row_of-t.ensures at c.walk_in-walked.ensures.most)
 
 pub returns-in-Some-clause-turned : goal.returns-in-Some-clause-turned
 returns-in-Some-clause-turned g c = turned g c
@@ -64,7 +66,18 @@ pub returns-in-Some-clause-room : goal.returns-in-Some-clause-room
 returns-in-Some-clause-room g c = room g c
 
 pub returns-in-Some-clause-most : goal.returns-in-Some-clause-most
-returns-in-Some-clause-most g c = λ h. turn_most (g.S.SideBook.width c.args.own.now) (g.S.SideBook.width c.args.other.now) (examined_by (taken_row c.in-Some.taken) (g.S.SideBook.state c.args.other.now).rows) (rest_of_work (after g c)) (rest_of_work (before g c)) c.args.steps.now c.take_best.new.steps c.walk_in-walked.new.steps (vec_len c.args.scratch.now.tried) (vec_len c.push_reserved.new.self) (omega arith) (work_on (taken_row c.in-Some.taken) (before g c) (after g c) c.requires.stage (walks g c) (sym (crossed g c) ∙ h)) c.push_reserved.ensures.len c.in-Some.ensures.most (walk_steps g c)
+returns-in-Some-clause-most g c = λ h. turn_most (g.S.SideBook.width c.args.own.now) (g.S.SideBook.width c.args.other.now) (examined_by (taken_row c.in-Some.taken) (g.S.SideBook.state c.args.other.now).rows) (rest_of_work (after g c)) (rest_of_work (before g c)) c.args.steps.now (c.args.steps.now + 1024 * (g.S.SideBook.width c.args.own.now + 1)) c.walk_in-walked.new.steps (vec_len c.args.scratch.now.tried) (vec_len c.push_reserved.new.self) (omega arith) (work_on (taken_row c.in-Some.taken) (before g c) (after g c) c.requires.stage (walks g c) (sym (crossed g c) ∙ h)) c.push_reserved.ensures.len (omega arith) (walk_steps g c)
 
 pub returns-in-Some-clause-most_done : goal.returns-in-Some-clause-most_done
-returns-in-Some-clause-most_done g c = λ h. turn_done (g.S.SideBook.width c.args.own.now) (g.S.SideBook.width c.args.other.now) (examined_by (taken_row c.in-Some.taken) (g.S.SideBook.state c.args.other.now).rows) (rest_of_work (before g c)) c.args.steps.now c.take_best.new.steps c.walk_in-walked.new.steps (vec_len c.args.scratch.now.tried) (vec_len c.push_reserved.new.self) (omega arith) (work_done (taken_row c.in-Some.taken) (before g c) (after g c) (walks g c) (sym (crossed g c) ∙ h)) c.push_reserved.ensures.len c.in-Some.ensures.most (walk_steps g c)
+returns-in-Some-clause-most_done g c = λ h. turn_done (g.S.SideBook.width c.args.own.now) (g.S.SideBook.width c.args.other.now) (examined_by (taken_row c.in-Some.taken) (g.S.SideBook.state c.args.other.now).rows) (rest_of_work (before g c)) c.args.steps.now (c.args.steps.now + 1024 * (g.S.SideBook.width c.args.own.now + 1)) c.walk_in-walked.new.steps (vec_len c.args.scratch.now.tried) (vec_len c.push_reserved.new.self) (omega arith) (work_done (taken_row c.in-Some.taken) (before g c) (after g c) (walks g c) (sym (crossed g c) ∙ h)) c.push_reserved.ensures.len (omega arith) (walk_steps g c)
+
+pub returns-in-None-clause-most_done : goal.returns-in-None-clause-most_done
+returns-in-None-clause-most_done g c = absurd (always_own (best_value (g.S.SideBook.state c.args.other.now).rows) (g.S.SideBook.state c.args.own.now).rows (sym c.sides_cross.ensures.crossed ∙ c.if-not-sides_cross.false) (c.in-None.ensures.none refl))
+
+-- ---- no row crosses one of the other side
+
+pub returns-then-not-sides_cross-clause-turned : goal.returns-then-not-sides_cross-clause-turned
+returns-then-not-sides_cross-clause-turned g c = turned_idle (stage_of (g.S.SideBook.state c.args.own.now).rows (g.S.SideBook.state c.args.other.now).rows c.args.scratch.now) (sym c.sides_cross.ensures.crossed ∙ c.if-not-sides_cross.true) c.requires.stage
+
+pub returns-then-not-sides_cross-clause-most_done : goal.returns-then-not-sides_cross-clause-most_done
+returns-then-not-sides_cross-clause-most_done g c = λ _. idle_most (g.S.SideBook.width c.args.own.now) (g.S.SideBook.width c.args.other.now) (vec_len c.args.scratch.now.tried) c.args.steps.now c.sides_cross.new.steps (stage_of (g.S.SideBook.state c.args.own.now).rows (g.S.SideBook.state c.args.other.now).rows c.args.scratch.now) c.sides_cross.ensures.most c.sides_cross.ensures.most_idle

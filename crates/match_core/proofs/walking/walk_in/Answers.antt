@@ -31,7 +31,7 @@ test_of t xs left b p e = rw (total_of_walk t xs left p) (sym e)
 many_of : (t : Priced) (old new xs : List Priced) (left : ℕ) → Gathered t old new xs left → length xs + length new ≡ length old
 many_of t old new xs left g = sym (length_put_in xs new) ∙ ap length g.back
 
-bound_of : (t : Priced) (rows : List Priced) (items turned : List Taken) (left w s0 s1 last : ℕ) → turned ≡ reverse items → PassesAll t t.row.leaves (taken_rows items) left → walk t t.row.leaves (in_priority rows) ≡ walk t t.row.leaves (taken_rows items) → s1 ≤ s0 + 1024 * (w + 1) * length items + 1536 * (w + 1) → last ≤ s1 + 512 * length (reverse turned) → last ≤ s0 + 1536 * (w + 1) * (1 + length (walk t t.row.leaves (in_priority rows)))
+bound_of : (t : Priced) (rows : List Priced) (items turned : List Taken) (left w s0 s1 last : ℕ) → turned ≡ reverse items → PassesAll t t.row.leaves (taken_rows items) left → walk t t.row.leaves (in_priority rows) ≡ walk t t.row.leaves (taken_rows items) → s1 ≤ s0 + 1024 * (w + 1) * length items + w → last ≤ s1 + 512 * length (reverse turned) → last + w ≤ s0 + 1536 * (w + 1) * (1 + length (walk t t.row.leaves (in_priority rows)))
 bound_of t rows items turned left w s0 s1 last e p walked h k =
     let n : length (walk t t.row.leaves (in_priority rows)) ≡ length items = ap length walked ∙ walk_length t t.row.leaves left (taken_rows items) p ∙ length_rows items in
     let m : length (reverse turned) ≡ length items = ap length (back_of items turned e) in

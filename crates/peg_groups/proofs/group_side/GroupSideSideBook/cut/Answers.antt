@@ -49,7 +49,7 @@ abbrev side_of : Inside → GroupsView
 side_of s = record { entries = s.groups.entries; best = s.best; event = s.event }
 
 pub invariant_of-self : goal.invariant_of-self
-invariant_of-self g c = record { is = (outcome (side_of c.self.inside) c.args.key c.args.cap c.args.entry c.leave-found.new.groups.entries c.leave-found.result c.self.invariant.is c.leave-found.ensures.left).is; len_is = rw (c.without_one-self-inside.ensures, c.is_some.ensures, c.self.invariant.len_is) (outcome (side_of c.self.inside) c.args.key c.args.cap c.args.entry c.leave-found.new.groups.entries c.leave-found.result c.self.invariant.is c.leave-found.ensures.left).count }
+invariant_of-self g c = record { is = (outcome (side_of c.self.inside) c.args.key c.args.cap c.args.entry c.leave-found.new.groups.entries c.leave-found.result c.self.invariant.is c.leave-found.ensures.left).is; len_is = rw (c.without_one-self-inside.ensures, c.is_some.ensures, c.self.invariant.len_is) (outcome (side_of c.self.inside) c.args.key c.args.cap c.args.entry c.leave-found.new.groups.entries c.leave-found.result c.self.invariant.is c.leave-found.ensures.left).count; used = λ h. cc; roomy = λ h. (outcome (side_of c.self.inside) c.args.key c.args.cap c.args.entry c.leave-found.new.groups.entries c.leave-found.result c.self.invariant.is c.leave-found.ensures.left).keeps.room (c.self.invariant.roomy h) }
 
 pub returns-clause-by_entry : goal.returns-clause-by_entry
 returns-clause-by_entry g c = rw (← c.self.view_is) (by_entry_groups c.self.inside.best c.self.inside.event c.self.inside.groups.entries c.self.invariant.is.groups)

@@ -2,6 +2,7 @@ use Rattle.std.proofs.Common.{ap, ◌∙◌, List, length, sym}
 use Rattle.peg_groups.proofs.Counting.{length_reprice}
 use Rattle.venue_words.specs.declared.row.Priced.{Priced}
 use Rattle.peg_groups.specs.Groups.{IsMoved, rows_of}
+use Rattle.peg_groups.proofs.NoPass.{rows_moved}
 use Rattle.peg_groups.proofs.Repricing.{side_repriced, room_for_event, paired_has, paired_length}
 use Rattle.peg_groups.proofs.group_side.GroupSideSideBook.reprice.Goals as goal
 
@@ -11,7 +12,7 @@ reprice_groups-requires g c = record { room = room_for_event c.self.inside.best 
 pub invariant_of-self : goal.invariant_of-self
 invariant_of-self g c =
     let r = side_repriced (record { entries = c.self.inside.groups.entries; best = c.self.inside.best; event = c.self.inside.event }) c.args.event c.args.best c.reprice_groups.new.groups.entries c.self.invariant.is (rw (← c.self.view_is) at c.requires.later) c.reprice_groups.ensures.moved in
-    record { is = r.0; len_is = c.self.invariant.len_is ∙ sym (length_reprice c.args.event c.args.best (rows_of c.self.inside.groups.entries)) ∙ ap length (sym r.1) }
+    record { is = r.0; len_is = c.self.invariant.len_is ∙ sym (length_reprice c.args.event c.args.best (rows_of c.self.inside.groups.entries)) ∙ ap length (sym r.1); used = λ h. rows_moved c.args.event c.args.best c.self.inside.groups.entries c.reprice_groups.new.groups.entries c.reprice_groups.ensures.moved (c.self.invariant.used h); roomy = λ h. cc }
 
 pub returns-clause-state : goal.returns-clause-state
 returns-clause-state g c =

@@ -55,7 +55,7 @@ abbrev side_of : Inside → GroupsView
 side_of s = record { entries = s.groups.entries; best = s.best; event = s.event }
 
 pub invariant_of-self : goal.invariant_of-self
-invariant_of-self g c = record { is = (outcome (side_of c.self.inside) c.take_first-found.new.groups.entries c.take_first-found.result c.self.invariant.is c.take_first-found.ensures.none c.take_first-found.ensures.first).is; len_is = rw (c.without_one-self-inside.ensures, c.is_some.ensures, c.self.invariant.len_is) (outcome (side_of c.self.inside) c.take_first-found.new.groups.entries c.take_first-found.result c.self.invariant.is c.take_first-found.ensures.none c.take_first-found.ensures.first).count }
+invariant_of-self g c = record { is = (outcome (side_of c.self.inside) c.take_first-found.new.groups.entries c.take_first-found.result c.self.invariant.is c.take_first-found.ensures.none c.take_first-found.ensures.first).is; len_is = rw (c.without_one-self-inside.ensures, c.is_some.ensures, c.self.invariant.len_is) (outcome (side_of c.self.inside) c.take_first-found.new.groups.entries c.take_first-found.result c.self.invariant.is c.take_first-found.ensures.none c.take_first-found.ensures.first).count; used = λ h. cc; roomy = λ h. (outcome (side_of c.self.inside) c.take_first-found.new.groups.entries c.take_first-found.result c.self.invariant.is c.take_first-found.ensures.none c.take_first-found.ensures.first).keeps.room (c.self.invariant.roomy h) }
 
 pub returns-clause-by_entry : goal.returns-clause-by_entry
 returns-clause-by_entry g c = rw (← c.self.view_is) (by_entry_groups c.self.inside.best c.self.inside.event c.self.inside.groups.entries c.self.invariant.is.groups)
