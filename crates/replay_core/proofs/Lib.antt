@@ -10,7 +10,11 @@ pub mod Loads
 pub mod Summing
 pub mod Refusals
 pub mod Settings
+pub mod Growing
+pub mod Down
 pub mod Pulls
+pub mod Asking
+pub mod Waiting
 pub mod Lists
 pub mod Worked
 pub mod RecordedCommands

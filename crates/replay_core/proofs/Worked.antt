@@ -1,5 +1,5 @@
 -- From what a line leaves of a worker and its floor to what the line comes to.
-use Rattle.std.proofs.Common.{◌≡◌, ◌⊎◌, ℕ, ℤ, ◌+◌, ◌≤◌, true, false, List, [], ◌++◌, length, map, Result, Ok, Err, Option, None, refl, sym, ◌∙◌, ap, subst, inl, inr, arith}
+use Rattle.std.proofs.Common.{◌≡◌, ◌⊎◌, ℕ, ℤ, ◌+◌, ◌<◌, ◌≤◌, Bool, true, false, List, [], ◌++◌, length, map, slice_index, Some, Result, Ok, Err, Option, None, refl, sym, ◌∙◌, ap, subst, inl, inr, arith}
 use Rattle.std.specs.Prelude.{IsOkAnd}
 use Rattle.std.specs.List.{AllZip, flat_map}
 use Rattle.venue_words.specs.Conditions.{IsConfig}
@@ -7,6 +7,8 @@ use Rattle.venue_words.specs.FloorLaws.{sets_up}
 use Rattle.venue_words.specs.Floors.{FloorMark, IsSetUpFor, Setup, SymbolView}
 use Rattle.venue_words.specs.declared.command.Event.{Event}
 use Rattle.venue_words.specs.declared.config.Config.{Config}
+use Rattle.venue_words.specs.declared.report.Report.{Report}
+use Rattle.venue_words.specs.Journals.{StartsWith, reports_of}
 use Rattle.eager_meaning.specs.State.{State}
 use Rattle.member_gate.specs.declared.refusal.DeskRefusal.{DeskRefusal}
 use Rattle.member_gate.specs.declared.refusal.DeskRefusal.TheVariants as refusal
@@ -19,54 +21,85 @@ use Rattle.script_text.specs.declared.fault.LimitCause.TheVariants.{Events}
 use Rattle.line_work.specs.LineWork.{LineWork, work_of_text}
 use Rattle.line_work.specs.LineWorkLaws.{text_keeps_config}
 use Rattle.line_work.specs.Refusing.{TookPart, IsRefused, refusal_at, fault_at}
-use Rattle.line_work.specs.Standing.{WorkerView}
+use Rattle.line_work.specs.Standing.{AreDesks, WorkerView}
 use Rattle.line_work.specs.Standing as feed
+use Rattle.replay_core.specs.News.{noted_at, KeepsDown, IsAsked}
 use Rattle.replay_core.specs.PlainFloor.{IsPlain, ShowsJournals}
-use Rattle.replay_core.specs.Playing.{Playing, Member, members_of}
+use Rattle.replay_core.specs.Playing.{Playing, members_in, members_of, reports_at}
 use Rattle.replay_core.specs.PlayLine.{Answer, play_line, answer_to, answer_to_work, recorded_by, behind_work, with_pulls}
-use Rattle.replay_core.specs.Pulling.{pulled, pull_lines, after_pulls, lines_of_pulls}
+use Rattle.replay_core.specs.Pulling.{pulled, pull_lines, after_pulls, lines_of_pulls, ShowsFronts}
 use Rattle.replay_core.specs.Recording.{Recorded, recorded}
-use Rattle.replay_core.specs.Stages.{AreCursors, IsDeskOfMember, StandsFor, kept_of}
-use Rattle.replay_core.proofs.FloorWork.{Took, took_all, none_full, no_steps, recorded_append}
-use Rattle.replay_core.proofs.Lists.{zip_members, zip_connections, zip_cursors}
+use Rattle.replay_core.specs.Stages.{AreSent, IsDeskOfMember, StandsFor, kept_of}
+use Rattle.replay_core.proofs.FloorWork.{Took, took_all, none_full, no_steps, recorded_append, reports_shown}
+use Rattle.replay_core.proofs.Growing.{all_grow}
+use Rattle.replay_core.proofs.Lists.{zip_connections}
+use Rattle.replay_core.proofs.Pulls.{zip_sent}
+use Rattle.replay_core.proofs.Waiting.{Looked, asked_all}
 
 pub set_up : {F : Type 0} (mark_of : F → FloorMark) (at : F → ℕ → SymbolView) (limit : FloorMark → ℕ → List Event → Event → Option ℕ) (state : F → ℕ → State) (config : Config) (mark : FloorMark)
     → IsConfig config → IsPlain mark_of at limit state config mark → IsSetUpFor config mark.setup
 set_up mark_of at limit state config mark is plain = subst (λ (s : Setup). IsSetUpFor config s) (sym plain.setup) (sets_up config is)
 
+-- which members were noted, by a look at the floor from these fronts: all with reports behind them, and the line's own member
+pub record Notes {F : Type 0} (at : F → ℕ → SymbolView) (config : Config) (floor : F) (fronts : List ℕ) (own : Option ℕ) (noted : List Bool) : Type 0 where
+  pub mine : (member : ℕ) → own ≡ Some member → member < length config.members → noted_at noted member ≡ true
+  pub none : (member symbol : ℕ) → member < length config.members → noted_at noted member ≡ false → symbol < length config.symbols
+      → reports_of member (slice_index fronts symbol) (at floor symbol).reports ≡ []
+
+pub noted_so : {F : Type 0} (at : F → ℕ → SymbolView) (config : Config) (floor : F) (fronts : List ℕ) (own : Option ℕ) (before noted : List Bool)
+    → length fronts ≡ length config.symbols → length before ≡ length config.members
+    → ((member : ℕ) → own ≡ Some member → member < length before → noted_at noted member ≡ true)
+    → ((member symbol : ℕ) → member < length before → noted_at noted member ≡ false → symbol < length fronts
+    → reports_of member (slice_index fronts symbol) (at floor symbol).reports ≡ [])
+    → Notes at config floor fronts own noted
+noted_so at config floor fronts own before noted symbols members mine none = record {
+  mine = λ member e l. mine member e (omega (arith, members, l));
+  none = λ member symbol l off within. none member symbol (omega (arith, members, l)) off (omega (arith, symbols, within));
+}
+
+-- what is kept behind a line's own work, before anything else goes out
+pub record Behind {F : Type 0} (at : F → ℕ → SymbolView) (worker : WorkerView) (floor : F) (noted : List Bool) (playing : Playing) : Type 0 where
+  pub feed : feed.StandsFor worker playing.feed
+  pub asked : AllZip (IsAsked noted worker.config playing.journals) worker.desks (members_of playing)
+  pub shows : ShowsJournals at worker.config floor playing.journals
+  pub each : length playing.journals ≡ length playing.feed.config.symbols
+
 -- a line was worked
-pub record Worked {F : Type 0} (at : F → ℕ → SymbolView) (limit : FloorMark → ℕ → List Event → Event → Option ℕ) (mark : FloorMark) (playing : Playing) (text : List ℕ) (worker : WorkerView) (old new : List ℕ) (before after : F × ℕ) : Type 0 where
+pub record Worked {F : Type 0} (at : F → ℕ → SymbolView) (limit : FloorMark → ℕ → List Event → Event → Option ℕ) (mark : FloorMark) (playing : Playing) (text : List ℕ) (worker : WorkerView) (old new : List ℕ) (before after : F × ℕ) (own : Option ℕ) : Type 0 where
   pub work : LineWork
   pub says : work_of_text playing.feed text ≡ Ok work
   pub stands : feed.StandsFor worker work.state
   pub told : new ≡ old ++ work.text
   pub took : TookAll at limit mark 1 work.state.moment work.submissions before after
+  pub down : AllZip (KeepsDown own) playing.feed.connections work.state.connections
 
-worked_as : {F : Type 0} (at : F → ℕ → SymbolView) (limit : FloorMark → ℕ → List Event → Event → Option ℕ) (mark : FloorMark) (playing : Playing) (text : List ℕ) (worker : WorkerView) (old new : List ℕ) (before after : F × ℕ) (read : Result LineWork LineFault)
+worked_as : {F : Type 0} (at : F → ℕ → SymbolView) (limit : FloorMark → ℕ → List Event → Event → Option ℕ) (mark : FloorMark) (playing : Playing) (text : List ℕ) (worker : WorkerView) (old new : List ℕ) (before after : F × ℕ) (own : Option ℕ) (read : Result LineWork LineFault)
     → work_of_text playing.feed text ≡ read → IsOkAnd read (λ work. feed.StandsFor worker work.state)
     → IsOkAnd read (λ work. new ≡ old ++ work.text)
     → IsOkAnd read (λ work. TookAll at limit mark 1 work.state.moment work.submissions before after)
-    → Worked at limit mark playing text worker old new before after
-worked_as at limit mark playing text worker old new before after (Ok work) e stands told took =
-    record { work = work; says = e; stands = stands; told = told; took = took }
-worked_as at limit mark playing text worker old new before after (Err fault) e stands told took = absurd stands
+    → IsOkAnd read (λ work. AllZip (KeepsDown own) playing.feed.connections work.state.connections)
+    → Worked at limit mark playing text worker old new before after own
+worked_as at limit mark playing text worker old new before after own (Ok work) e stands told took down =
+    record { work = work; says = e; stands = stands; told = told; took = took; down = down }
+worked_as at limit mark playing text worker old new before after own (Err fault) e stands told took down = absurd stands
 
-pub worked_so : {F : Type 0} (at : F → ℕ → SymbolView) (limit : FloorMark → ℕ → List Event → Event → Option ℕ) (mark : FloorMark) (playing : Playing) (text : List ℕ) (worker : WorkerView) (old new : List ℕ) (before after : F × ℕ)
+pub worked_so : {F : Type 0} (at : F → ℕ → SymbolView) (limit : FloorMark → ℕ → List Event → Event → Option ℕ) (mark : FloorMark) (playing : Playing) (text : List ℕ) (worker : WorkerView) (old new : List ℕ) (before after : F × ℕ) (own : Option ℕ)
     → IsOkAnd (work_of_text playing.feed text) (λ work. feed.StandsFor worker work.state)
     → IsOkAnd (work_of_text playing.feed text) (λ work. new ≡ old ++ work.text)
     → IsOkAnd (work_of_text playing.feed text) (λ work. TookAll at limit mark 1 work.state.moment work.submissions before after)
-    → Worked at limit mark playing text worker old new before after
-worked_so at limit mark playing text worker old new before after stands told took =
-    worked_as at limit mark playing text worker old new before after (work_of_text playing.feed text) refl stands told took
+    → IsOkAnd (work_of_text playing.feed text) (λ work. AllZip (KeepsDown own) playing.feed.connections work.state.connections)
+    → Worked at limit mark playing text worker old new before after own
+worked_so at limit mark playing text worker old new before after own stands told took down =
+    worked_as at limit mark playing text worker old new before after own (work_of_text playing.feed text) refl stands told took down
 
 module _ {F : Type 0} (mark_of : F → FloorMark) (at : F → ℕ → SymbolView) (limit : FloorMark → ℕ → List Event → Event → Option ℕ) (state : F → ℕ → State) (mark : FloorMark) where
   -- the floor shows what the line's commands make of the journals
-  pub took_line : (worker next : WorkerView) (floor : F) (steps : ℕ) (after : F × ℕ) (fault : Option LineFault) (playing : Playing) (text old new : List ℕ)
+  pub took_line : (worker next : WorkerView) (floor : F) (steps : ℕ) (after : F × ℕ) (fronts : List ℕ) (fault : Option LineFault) (own : Option ℕ) (playing : Playing) (text old new : List ℕ)
       → IsConfig worker.config → IsPlain mark_of at limit state worker.config mark
-      → StandsFor at (kept_of worker floor fault) playing → next.config ≡ worker.config
-      → (w : Worked at limit mark playing text next old new (floor, steps) after)
+      → StandsFor at (kept_of worker floor fronts fault) playing → next.config ≡ worker.config
+      → (w : Worked at limit mark playing text next old new (floor, steps) after own)
       → Took at w.work.state.config (recorded_by playing w.work) steps after
-  took_line worker next floor steps after fault playing text old new is plain s same w =
+  took_line worker next floor steps after fronts fault own playing text old new is plain s same w =
       let mine : worker.config ≡ w.work.state.config = sym same ∙ w.stands.config in
       let ours : playing.feed.config ≡ w.work.state.config = sym s.feed.config ∙ mine in
       took_all mark_of at limit state w.work.state.config mark w.work.state.moment w.work.submissions playing.journals (floor, steps) after
@@ -75,21 +108,52 @@ module _ {F : Type 0} (mark_of : F → FloorMark) (at : F → ℕ → SymbolView
       (subst (λ (k : Config). length playing.journals ≡ length k.symbols) ours s.each)
       (subst (λ (k : Config). ShowsJournals at k floor playing.journals) ours s.journals) w.took
 
-  -- what is kept stands for the player behind the line's own work
-  pub stands_worked : (worker next : WorkerView) (floor : F) (steps : ℕ) (after : F × ℕ) (fault : Option LineFault) (playing : Playing) (text old new : List ℕ)
-      → StandsFor at (kept_of worker floor fault) playing → next.config ≡ worker.config
-      → map (λ (d : DeskView). d.cursors) next.desks ≡ map (λ (d : DeskView). d.cursors) worker.desks
-      → (w : Worked at limit mark playing text next old new (floor, steps) after)
-      → Took at w.work.state.config (recorded_by playing w.work) steps after
-      → StandsFor at (kept_of next after.0 fault) (behind_work playing w.work (recorded_by playing w.work))
-  stands_worked worker next floor steps after fault playing text old new s same cursors w took =
-      let ours : playing.feed.config ≡ w.work.state.config = sym s.feed.config ∙ sym same ∙ w.stands.config in
+  -- what a look from the fronts found in the floor is so of the journals
+  looked : (worker : WorkerView) (floor : F) (fronts : List ℕ) (fault : Option LineFault) (playing : Playing) (moment : ℤ) (subs : List Submission)
+      (steps : ℕ) (after : F × ℕ) (journals : List (List Event)) (own : Option ℕ) (noted : List Bool)
+      → IsPlain mark_of at limit state worker.config mark → mark_of floor ≡ mark → mark_of after.0 ≡ mark
+      → StandsFor at (kept_of worker floor fronts fault) playing → TookAll at limit mark 1 moment subs (floor, steps) after
+      → ShowsJournals at worker.config after.0 journals → Notes at worker.config after.0 fronts own noted
+      → Looked worker.config playing.journals journals fronts own noted
+  looked worker floor fronts fault playing moment subs steps after journals own noted plain mine behind s took shows x =
+      let was : ShowsJournals at worker.config floor playing.journals =
+      subst (λ (k : Config). ShowsJournals at k floor playing.journals) (sym s.feed.config) s.journals in
+      let told : ShowsFronts at worker.config floor fronts = subst (λ (k : Config). ShowsFronts at k floor fronts) (sym s.feed.config) s.fronts in
+      let before = reports_shown mark_of at limit state worker.config mark floor plain mine playing.journals was in
+      let now = reports_shown mark_of at limit state worker.config mark after.0 plain behind journals shows in
       record {
-        clear = s.clear;
+        grown = λ symbol l. subst (λ (rs : List Report). StartsWith rs (reports_at worker.config playing.journals symbol)) (now symbol l)
+            (subst (λ (rs : List Report). StartsWith (at after.0 symbol).reports rs) (before symbol l)
+            (all_grow at limit mark moment subs (floor, steps) after took symbol));
+        told = λ symbol l. told.read symbol l ∙ ap (length {A = Report}) (before symbol l);
+        mine = x.mine;
+        none = λ member symbol l off within.
+            ap (reports_of member (slice_index fronts symbol)) (sym (now symbol within)) ∙ x.none member symbol l off within;
+      }
+
+  -- the player behind the line's own work, beside what is kept: who is to be asked is noted
+  pub behind_worked : (worker next : WorkerView) (floor : F) (steps : ℕ) (after : F × ℕ) (fronts : List ℕ) (fault : Option LineFault) (own : Option ℕ) (playing : Playing) (text old new : List ℕ) (noted : List Bool)
+      → IsPlain mark_of at limit state worker.config mark → mark_of floor ≡ mark → mark_of after.0 ≡ mark
+      → StandsFor at (kept_of worker floor fronts fault) playing → AreDesks worker.config worker.desks → next.config ≡ worker.config
+      → map (λ (d : DeskView). d.cursors) next.desks ≡ map (λ (d : DeskView). d.cursors) worker.desks
+      → (w : Worked at limit mark playing text next old new (floor, steps) after own)
+      → Took at w.work.state.config (recorded_by playing w.work) steps after
+      → Notes at worker.config after.0 fronts own noted
+      → Behind at next after.0 noted (behind_work playing w.work (recorded_by playing w.work))
+  behind_worked worker next floor steps after fronts fault own playing text old new noted plain mine behind s desks same cursors w took x =
+      let shows : ShowsJournals at worker.config after.0 (recorded_by playing w.work).journals =
+      subst (λ (k : Config). ShowsJournals at k after.0 (recorded_by playing w.work).journals) (sym w.stands.config ∙ same) took.shows in
+      let sent = subst (λ (k : Config). AllZip (AreSent k playing.journals) worker.desks playing.cursors) (sym s.feed.config) s.cursors in
+      let all = looked worker floor fronts fault playing w.work.state.moment w.work.submissions steps after (recorded_by playing w.work).journals own
+      noted plain mine behind s w.took shows x in
+      record {
         feed = w.stands;
-        cursors = subst (λ (xs : List (List ℕ)). AllZip (AreCursors (length w.work.state.config.symbols)) xs playing.cursors) (sym cursors)
-            (subst (λ (k : Config). AllZip (AreCursors (length k.symbols)) (map (λ (d : DeskView). d.cursors) worker.desks) playing.cursors) ours s.cursors);
-        journals = took.shows;
+        asked = subst (λ (k : Config). AllZip (IsAsked noted k (recorded_by playing w.work).journals) next.desks
+            (members_in w.work.state.connections playing.cursors)) (sym same)
+            (asked_all worker.config playing.journals (recorded_by playing w.work).journals fronts own noted all worker.desks next.desks
+            playing.feed.connections w.work.state.connections playing.cursors 0 (length worker.config.members) desks (omega arith)
+            s.feed.desks w.down w.stands.desks cursors sent);
+        shows = subst (λ (k : Config). ShowsJournals at k after.0 (recorded_by playing w.work).journals) (sym same) shows;
         each = took.each;
       }
 
@@ -124,52 +188,39 @@ line_told n playing text old between new work e room none told grew =
 
 -- ---- what goes out
 
-pub stands_pulled : {F : Type 0} (at : F → ℕ → SymbolView) (worker next : WorkerView) (floor after : F) (fault : Option LineFault) (playing : Playing)
-    → StandsFor at (kept_of worker floor fault) playing → next.config ≡ worker.config → next.moment ≡ worker.moment
-    → ((journals : List (List Event)) (members : List Member) → ShowsJournals at worker.config floor journals
-    → AllZip (IsDeskOfMember (length worker.config.symbols)) worker.desks members
-    → AllZip (IsDeskOfMember (length worker.config.symbols)) next.desks (map (pulled worker.config worker.moment journals) members))
-    → ((journals : List (List Event)) → ShowsJournals at worker.config floor journals → ShowsJournals at worker.config after journals)
-    → StandsFor at (kept_of next after fault) (after_pulls playing)
-stands_pulled at worker next floor after fault playing s config moment pulls keeps =
-    let shows : ShowsJournals at worker.config floor playing.journals =
-    subst (λ (k : Config). ShowsJournals at k floor playing.journals) (sym s.feed.config) s.journals in
-    let cursors = subst (λ (k : Config). AllZip (AreCursors (length k.symbols)) (map (λ (d : DeskView). d.cursors) worker.desks) playing.cursors)
-    (sym s.feed.config) s.cursors in
-    let zip = zip_members (length worker.config.symbols) worker.desks playing.feed.connections playing.cursors s.feed.desks cursors in
-    let desks : AllZip (IsDeskOfMember (length playing.feed.config.symbols)) next.desks
+pub stands_pulled : {F : Type 0} (at : F → ℕ → SymbolView) (worker next : WorkerView) (floor after : F) (fronts : List ℕ) (noted : List Bool) (fault : Option LineFault) (playing : Playing)
+    → Behind at worker floor noted playing → fault ≡ None → next.config ≡ worker.config → next.moment ≡ worker.moment
+    → AllZip (IsDeskOfMember worker.config playing.journals) next.desks
+    (map (pulled worker.config worker.moment playing.journals) (members_of playing))
+    → ShowsJournals at worker.config after playing.journals → ShowsFronts at worker.config after fronts
+    → StandsFor at (kept_of next after fronts fault) (after_pulls playing)
+stands_pulled at worker next floor after fronts noted fault playing s clear config moment pulls shows told =
+    let desks : AllZip (IsDeskOfMember playing.feed.config playing.journals) next.desks
     (map (pulled playing.feed.config playing.feed.moment playing.journals) (members_of playing)) =
-    subst (λ (m : ℤ). AllZip (IsDeskOfMember (length playing.feed.config.symbols)) next.desks (map (pulled playing.feed.config m playing.journals) (members_of playing)))
+    subst (λ (m : ℤ). AllZip (IsDeskOfMember playing.feed.config playing.journals) next.desks (map (pulled playing.feed.config m playing.journals) (members_of playing)))
     s.feed.moment
-    (subst (λ (k : Config). AllZip (IsDeskOfMember (length k.symbols)) next.desks (map (pulled k worker.moment playing.journals) (members_of playing)))
-    s.feed.config (pulls playing.journals (members_of playing) shows zip)) in
+    (subst (λ (k : Config). AllZip (IsDeskOfMember k playing.journals) next.desks (map (pulled k worker.moment playing.journals) (members_of playing)))
+    s.feed.config pulls) in
     record {
-      clear = s.clear;
+      clear = clear;
       feed = record {
         config = config ∙ s.feed.config;
         moment = moment ∙ s.feed.moment;
-        desks = zip_connections (length playing.feed.config.symbols) next.desks _ desks;
+        desks = zip_connections playing.feed.config playing.journals next.desks _ desks;
       };
-      cursors = zip_cursors (length playing.feed.config.symbols) next.desks _ desks;
-      journals = subst (λ (k : Config). ShowsJournals at k after playing.journals) s.feed.config (keeps playing.journals shows);
+      cursors = zip_sent playing.feed.config playing.feed.moment playing.journals next.desks (members_of playing) desks;
+      journals = subst (λ (k : Config). ShowsJournals at k after playing.journals) s.feed.config shows;
       each = s.each;
+      fronts = subst (λ (k : Config). ShowsFronts at k after fronts) s.feed.config told;
     }
 
-pub text_pulled : {F : Type 0} (at : F → ℕ → SymbolView) (worker : WorkerView) (floor : F) (fault : Option LineFault) (playing : Playing) (old new : List ℕ)
-    → StandsFor at (kept_of worker floor fault) playing
-    → ((journals : List (List Event)) (members : List Member) → ShowsJournals at worker.config floor journals
-    → AllZip (IsDeskOfMember (length worker.config.symbols)) worker.desks members
-    → new ≡ old ++ flat_map (pull_lines worker.config worker.moment journals) members)
+pub text_pulled : {F : Type 0} (at : F → ℕ → SymbolView) (worker : WorkerView) (floor : F) (noted : List Bool) (playing : Playing) (old new : List ℕ)
+    → Behind at worker floor noted playing
+    → new ≡ old ++ flat_map (pull_lines worker.config worker.moment playing.journals) (members_of playing)
     → new ≡ old ++ lines_of_pulls playing
-text_pulled at worker floor fault playing old new s pulls =
-    let shows : ShowsJournals at worker.config floor playing.journals =
-    subst (λ (k : Config). ShowsJournals at k floor playing.journals) (sym s.feed.config) s.journals in
-    let cursors = subst (λ (k : Config). AllZip (AreCursors (length k.symbols)) (map (λ (d : DeskView). d.cursors) worker.desks) playing.cursors)
-    (sym s.feed.config) s.cursors in
-    let zip = zip_members (length worker.config.symbols) worker.desks playing.feed.connections playing.cursors s.feed.desks cursors in
+text_pulled at worker floor noted playing old new s pulls =
     subst (λ (m : ℤ). new ≡ old ++ flat_map (pull_lines playing.feed.config m playing.journals) (members_of playing)) s.feed.moment
-    (subst (λ (k : Config). new ≡ old ++ flat_map (pull_lines k worker.moment playing.journals) (members_of playing)) s.feed.config
-    (pulls playing.journals (members_of playing) shows zip))
+    (subst (λ (k : Config). new ≡ old ++ flat_map (pull_lines k worker.moment playing.journals) (members_of playing)) s.feed.config pulls)
 
 -- ---- refusals
 
@@ -221,12 +272,12 @@ unread_so n playing text meant fault e (inr so) =
     inr (ap (λ (r : Result LineWork LineFault). (answer_to_work n playing r).result) e ∙ ap (λ (f : LineFault). Err (fault_at n f)) (sym so))
 
 module _ {F : Type 0} (mark_of : F → FloorMark) (at : F → ℕ → SymbolView) (limit : FloorMark → ℕ → List Event → Event → Option ℕ) (state : F → ℕ → State) (mark : FloorMark) where
-  refused_as : (worker : WorkerView) (floor : F) (steps : ℕ) (after : F × ℕ) (at_fault : Option LineFault) (n : ℕ) (playing : Playing) (text : List ℕ) (fault : LineFault) (read : Result LineWork LineFault)
-      → IsConfig worker.config → IsPlain mark_of at limit state worker.config mark → StandsFor at (kept_of worker floor at_fault) playing
+  refused_as : (worker : WorkerView) (floor : F) (steps : ℕ) (after : F × ℕ) (fronts : List ℕ) (at_fault : Option LineFault) (n : ℕ) (playing : Playing) (text : List ℕ) (fault : LineFault) (read : Result LineWork LineFault)
+      → IsConfig worker.config → IsPlain mark_of at limit state worker.config mark → StandsFor at (kept_of worker floor fronts at_fault) playing
       → ((work : LineWork) → read ≡ Ok work → work.state.config ≡ playing.feed.config)
       → work_of_text playing.feed text ≡ read → IsRefused at limit mark 1 fault read (floor, steps) after
       → RefusedLine n playing text fault steps after.1
-  refused_as worker floor steps after at_fault n playing text fault (Ok work) is plain s config e x =
+  refused_as worker floor steps after fronts at_fault n playing text fault (Ok work) is plain s config e x =
       let mine : worker.config ≡ work.state.config = s.feed.config ∙ sym (config work refl) in
       let ours : playing.feed.config ≡ work.state.config = sym (config work refl) in
       let y = refusal_of mark_of at limit state work.state.config mark work.state.moment work.submissions x.0 playing.journals (floor, steps) after
@@ -239,14 +290,14 @@ module _ {F : Type 0} (mark_of : F → FloorMark) (at : F → ℕ → SymbolView
         answer = stopped_so n playing text work x.0 fault steps after.1 e x.1 y;
         steps = omega (arith, most, y.steps);
       }
-  refused_as worker floor steps after at_fault n playing text fault (Err meant) is plain s config e x =
+  refused_as worker floor steps after fronts at_fault n playing text fault (Err meant) is plain s config e x =
       let same : after.1 ≡ steps = ap (λ (y : F × ℕ). y.1) x.1 in
       record { answer = unread_so n playing text meant fault e x.0; steps = omega arith }
 
-  pub refused_line : (worker : WorkerView) (floor : F) (steps : ℕ) (after : F × ℕ) (at_fault : Option LineFault) (n : ℕ) (playing : Playing) (text : List ℕ) (fault : LineFault)
-      → IsConfig worker.config → IsPlain mark_of at limit state worker.config mark → StandsFor at (kept_of worker floor at_fault) playing
+  pub refused_line : (worker : WorkerView) (floor : F) (steps : ℕ) (after : F × ℕ) (fronts : List ℕ) (at_fault : Option LineFault) (n : ℕ) (playing : Playing) (text : List ℕ) (fault : LineFault)
+      → IsConfig worker.config → IsPlain mark_of at limit state worker.config mark → StandsFor at (kept_of worker floor fronts at_fault) playing
       → IsRefused at limit mark 1 fault (work_of_text playing.feed text) (floor, steps) after
       → RefusedLine n playing text fault steps after.1
-  refused_line worker floor steps after at_fault n playing text fault is plain s x =
-      refused_as worker floor steps after at_fault n playing text fault (work_of_text playing.feed text) is plain s
+  refused_line worker floor steps after fronts at_fault n playing text fault is plain s x =
+      refused_as worker floor steps after fronts at_fault n playing text fault (work_of_text playing.feed text) is plain s
       (text_keeps_config playing.feed text) refl x

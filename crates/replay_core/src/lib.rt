@@ -5,6 +5,7 @@ pub mod complete;
 pub mod laws;
 pub mod lines;
 pub mod loading;
+pub mod news;
 pub mod phase;
 pub mod plain_floor;
 pub mod plan;
@@ -16,6 +17,7 @@ pub mod status;
 pub mod summary;
 pub mod telling;
 pub mod venue;
+pub mod working;
 
 pub use plain_floor::PlainFloor;
 pub use player::Player;

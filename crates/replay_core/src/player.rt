@@ -9,9 +9,11 @@ ghost use Rattle.replay_core.specs.Playing.{Playing, before_body};
 ghost use Rattle.replay_core.specs.Stages.{StandsFor};
 ghost use Rattle.replay_core.specs.Summary.{summary_of};
 
+use crate::news::News;
 use crate::plain_floor::PlainFloor;
 use crate::pulling::pull_all;
 use crate::summary::Summary;
+use crate::working::work_text;
 use line_work::{LineWorker, fault_at};
 use script_text::LineFault;
 use std::alloc::Global;
@@ -19,31 +21,31 @@ use std::marker::Model;
 use std::sync::ledger::Ledger;
 use venue_words::{Config, NoMemory, Steps};
 
-/// The number of a script's one feed.
-const FEED: u32 = 1;
-
 /// Works the lines behind a header, over any floor of one thread.
 #[derive(Drop)]
 pub struct Player<F: PlainFloor> {
+    alloc: Global,
     worker: LineWorker,
     floor: F,
-    /// Room for the number of reports of each symbol.
-    fronts: Vec<u32>,
+    news: News,
     /// The fault of the first refused line, at which the player stands from then on.
     fault: Option<LineFault>,
 }
 
 impl<F: PlainFloor> Model for Player<F> {
+    ghost use Rattle.std.specs.Prelude.{◌≡◌, length};
     ghost use Rattle.venue_words.specs.Conditions.{IsConfig};
     ghost use Rattle.replay_core.specs.PlainFloor.{IsPlain};
     ghost use Rattle.replay_core.specs.Stages.{Kept, kept_of};
 
     ghost Value = { Kept F };
 
-    ghost view = { λ p. kept_of p.worker p.floor p.fault };
+    ghost view = { λ p. kept_of p.worker p.floor p.news.fronts.items p.fault };
 
     ghost invariant = { λ p. IsConfig p.worker.config
-        × IsPlain F.mark F.at F.step_limit F.state p.worker.config (F.mark p.floor) };
+        × IsPlain F.mark F.at F.step_limit F.state p.worker.config (F.mark p.floor)
+        × (length p.news.fronts.items ≡ length p.worker.config.symbols)
+        × (length p.news.noted.items ≡ length p.worker.config.members) };
 }
 
 impl<F: PlainFloor> Player<F> {
@@ -53,11 +55,13 @@ impl<F: PlainFloor> Player<F> {
         ensures { IfOk result (λ player. StandsFor F.at player (before_body config)) }
     {
         let floor = F::open(alloc, &config)?;
+        let news = News::new(alloc, &config)?;
         let worker = LineWorker::new(alloc, config)?;
         Ok(Player {
+            alloc,
             worker,
             floor,
-            fronts: Vec::new(alloc),
+            news,
             fault: None,
         })
     }
@@ -77,11 +81,19 @@ impl<F: PlainFloor> Player<F> {
             → steps.new ≤ steps.old + (play_line line playing text.now).steps }
         ensures fault { self.new.fault ≡ self.old.fault }
     {
-        match self.worker.line(&mut self.floor, FEED, text, out, steps) {
-            Ok(()) => {}
+        let own = match work_text(
+            self.alloc,
+            &mut self.worker,
+            &mut self.floor,
+            text,
+            out,
+            steps,
+        ) {
+            Ok(own) => own,
             Err(fault) => return Err(fault_at(line, fault)),
-        }
-        match pull_all(&mut self.worker, &mut self.floor, &mut self.fronts, out) {
+        };
+        self.news.look(&self.floor, own);
+        match pull_all(&mut self.worker, &mut self.floor, &self.news, out) {
             Ok(()) => Ok(()),
             Err(_) => Err(LineFault::NoMemory),
         }

@@ -1,52 +1,65 @@
 //! What goes out behind a line.
-ghost use Rattle.std.specs.Prelude.{◌≡◌, ◌<◌, ◌++◌, List, length, map, OnOk};
+ghost use Rattle.std.specs.Prelude.{◌≡◌, ◌<◌, ◌++◌, ℕ, List, length, map, OnOk};
 ghost use Rattle.std.specs.List.{AllZip, flat_map};
 ghost use Rattle.venue_words.specs.declared.command.Event.{Event};
-ghost use Rattle.venue_words.specs.Conditions.{IsConfig};
+ghost use Rattle.venue_words.specs.Floors.{IsSetUpFor};
+ghost use Rattle.member_gate.specs.Reporting.{AreFronts};
+ghost use Rattle.member_gate.specs.Submitting.{Waited};
+ghost use Rattle.replay_core.specs.News.{noted_at, IsAsked, PulledIf};
 ghost use Rattle.replay_core.specs.PlainFloor.{IsPlain, ShowsJournals};
 ghost use Rattle.replay_core.specs.Playing.{Member};
 ghost use Rattle.replay_core.specs.Pulling.{pulled, pull_lines, ShowsFronts};
 ghost use Rattle.replay_core.specs.Stages.{IsDeskOfMember};
 
+use crate::news::News;
 use crate::plain_floor::PlainFloor;
 use line_work::LineWorker;
-use venue_words::{Config, NoMemory};
+use venue_words::{Floor, NoMemory};
 
-/// Notes how many reports each symbol has.
-fn note_fronts<F: PlainFloor>(
-    config: &Config,
-    floor: &F,
-    fronts: &mut Vec<u32>,
+/// Pulls a member's reports that were not sent yet, if he is noted, and appends what is sent.
+fn pull_noted<F: Floor>(
+    worker: &mut LineWorker,
+    floor: &mut F,
+    news: &News,
+    member: u32,
+    out: &mut Vec<u8>,
 ) -> Result<(), NoMemory>
-    requires config { IsConfig config.now }
-    requires plain { IsPlain F.mark F.at F.step_limit F.state config.now (F.mark floor.now) }
-    ensures { OnOk result (ShowsFronts F.at config.now floor.now fronts.new.items) }
+    requires setup { IsSetUpFor worker.old.config (F.mark floor.old).setup }
+    requires member { member < length worker.old.config.members }
+    requires fronts { AreFronts (length worker.old.config.symbols) (λ symbol. (F.at floor.old symbol).reports) news.now.fronts.items }
+    ensures pulled { OnOk result (PulledIf (noted_at news.now.noted.items member) worker.old.config worker.old.moment
+        (λ symbol. (F.at floor.new symbol).reports) member worker.old.desks worker.new.desks out.old.items out.new.items) }
+
+    // What stays.
+    ensures mark { F.mark floor.new ≡ F.mark floor.old }
+    ensures waited { (symbol : ℕ) → Waited (F.at floor.old symbol) (F.at floor.new symbol) }
+    ensures config { worker.new.config ≡ worker.old.config }
+    ensures moment { worker.new.moment ≡ worker.old.moment }
 {
-    fronts.clear();
-    let count = config.symbols.len() as u32;
-    for symbol in 0..count {
-        fronts.push(floor.front(symbol))?;
+    if !news.is_noted(member) {
+        return Ok(());
     }
-    Ok(())
+    worker.pull_news(floor, member, news.fronts(), out)
 }
 
-/// Pulls all members' reports that were not sent yet, in the members' order, and appends what is sent. `fronts` is room for
-/// the number of reports of each symbol.
+/// Pulls the reports of all noted members that were not sent yet, in the members' order, and appends what is sent. For a
+/// member who is not noted nothing waits.
 pub fn pull_all<F: PlainFloor>(
     worker: &mut LineWorker,
     floor: &mut F,
-    fronts: &mut Vec<u32>,
+    news: &News,
     out: &mut Vec<u8>,
 ) -> Result<(), NoMemory>
-    requires { IsPlain F.mark F.at F.step_limit F.state worker.old.config (F.mark floor.old) }
+    requires plain { IsPlain F.mark F.at F.step_limit F.state worker.old.config (F.mark floor.old) }
+    requires fronts { ShowsFronts F.at worker.old.config floor.old news.now.fronts.items }
     ensures desks { OnOk result ((journals : List (List Event)) (members : List Member)
         → ShowsJournals F.at worker.old.config floor.old journals
-        → AllZip (IsDeskOfMember (length worker.old.config.symbols)) worker.old.desks members
-        → AllZip (IsDeskOfMember (length worker.old.config.symbols)) worker.new.desks
+        → AllZip (IsAsked news.now.noted.items worker.old.config journals) worker.old.desks members
+        → AllZip (IsDeskOfMember worker.old.config journals) worker.new.desks
         (map (pulled worker.old.config worker.old.moment journals) members)) }
     ensures text { OnOk result ((journals : List (List Event)) (members : List Member)
         → ShowsJournals F.at worker.old.config floor.old journals
-        → AllZip (IsDeskOfMember (length worker.old.config.symbols)) worker.old.desks members
+        → AllZip (IsAsked news.now.noted.items worker.old.config journals) worker.old.desks members
         → out.new.items ≡ out.old.items ++ flat_map (pull_lines worker.old.config worker.old.moment journals) members) }
 
     // What stays.
@@ -55,11 +68,11 @@ pub fn pull_all<F: PlainFloor>(
     ensures mark { F.mark floor.new ≡ F.mark floor.old }
     ensures journals { (journals : List (List Event)) → ShowsJournals F.at worker.old.config floor.old journals
         → ShowsJournals F.at worker.old.config floor.new journals }
+    ensures shown { OnOk result (ShowsFronts F.at worker.old.config floor.new news.now.fronts.items) }
 {
-    note_fronts(worker.config(), floor, fronts)?;
     let count = worker.config().members.len() as u32;
     for member in 0..count {
-        worker.pull_news(floor, member, fronts.as_slice(), out)?;
+        pull_noted(worker, floor, news, member, out)?;
     }
     Ok(())
 }
