@@ -1,3 +1,4 @@
+pub mod Catching
 pub mod Connecting
 pub mod Faults
 pub mod Greetings

@@ -18,6 +18,7 @@ use Rattle.serve_core.specs.Growing.{Grew}
 use Rattle.serve_core.specs.Rounds.{Served, Serves, Round, IsRound, Follow, round_of, put_in, put_by, commands_in, commands_by, turns_of}
 use Rattle.serve_core.specs.Turning.{GrewBy, TookTurn}
 use Rattle.serve_core.specs.Sessions.{Ground, ground, RoseBy, SoFar, looks}
+use Rattle.serve_core.proofs.Catching.{caught_turn}
 use Rattle.serve_core.proofs.Grows.{grew_then, grew_same, starts_self, starts_then}
 
 -- ---- what is told
@@ -117,6 +118,7 @@ so_far_none at config feed start desk before serves = record {
   grew = λ symbol. grew_same feed (at before.floor symbol) (at before.floor symbol) refl;
   seen = All-nil (λ (round : Round). (symbol : ℕ) → StartsWith (at before.floor symbol).reports (round.looked symbol));
   turns = λ symbol within. rose_none (at before.floor symbol).turns;
+  caught = λ entry caught. caught;
 }
 
 pub so_far_more : {F : Type 0} (at : F → ℕ → SymbolView) (config : Config) (feed : ℕ) (start : Served) (desk desk' : DeskView)
@@ -159,4 +161,6 @@ so_far_more {F = F} at config feed start desk desk' before floor floor' a b c s 
           (at floor' symbol).turns (count_more (looks config) so.rounds round) (so.turns symbol within)
           (rose_at (looks config round) (at floor symbol).turns (at floor' symbol).turns (λ up. took.turns up symbol within)
           (took.grew symbol).turns);
+      caught = λ entry first. caught_turn config (λ symbol. (at floor symbol).reports) (λ symbol. (at floor' symbol).reports) turn so.stop
+          took.after entry (λ symbol. (took.grew symbol).reports) took.round (so.caught entry first);
     }

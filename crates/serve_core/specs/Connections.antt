@@ -1,15 +1,16 @@
 -- A whole connection.
-use Rattle.std.specs.Prelude.{◌≡◌, ◌⊎◌, ◌+◌, ℕ, ℤ, List, [], Option, Some, None, IfSome, option_map, slice_get, slice_set}
+use Rattle.std.specs.Prelude.{◌≡◌, ◌⊎◌, ◌+◌, ℕ, ℤ, List, [], Option, Some, None, IfSome, length, option_map, slice_get, slice_set}
 use Rattle.venue_words.specs.declared.config.Config.{Config}
 use Rattle.venue_words.specs.Floors.{FloorMark, SymbolView}
 use Rattle.io_edge.specs.Links.Answer.{piece}
-use Rattle.session_core.specs.Machine.{connected}
+use Rattle.session_core.specs.Machine.{IsUp, connected}
 use Rattle.symbol_book.specs.Setting.{reports_at}
 use Rattle.turn_gate.specs.Seats.{SeatState}
 use Rattle.venue_core.specs.Shown.{shown_by_seat}
 use Rattle.member_gate.specs.Desks.{DeskView, desk_at}
+use Rattle.member_gate.specs.Reporting.{MovedOn}
 use Rattle.link_work.specs.declared.ends.LinkEnd.{LinkEnd}
-use Rattle.link_work.specs.declared.ends.LinkEnd.TheVariants.{InUse, NoMemory}
+use Rattle.link_work.specs.declared.ends.LinkEnd.TheVariants.{InUse, NoMemory, PeerEnd}
 use Rattle.link_work.specs.Turns.{LinkTurn}
 use Rattle.serve_core.specs.Naming.{Edge, Named, Stranger}
 use Rattle.serve_core.specs.Rounds.{Served}
@@ -64,8 +65,9 @@ pub record Absent {F : Type 0} (config : Config) (end : LinkEnd) (before after :
   pub absent : IfSome desks (λ each. desk_at each member ≡ None)
   pub left : desks' ≡ option_map (λ each. slice_set each member None) desks
 
--- the member was known, and his desk was taken, served him and was given back; his feed is the one behind those of the members
--- before him
+-- The member was known, and his desk was taken, served him and was given back; his feed is the one behind those of the members
+-- before him. Where the peer ended while the session was up, each cursor has gone on to the end of its symbol's reports, or is
+-- where it was if that is further on.
 pub record Visited {F : Type 0} (at : F → ℕ → SymbolView) (mark : FloorMark) (config : Config) (end : LinkEnd) (before after : Ground F) (desks desks' : ToldDesks) : Type 0 where
   pub member : ℕ
   pub moment : ℤ
@@ -78,6 +80,8 @@ pub record Visited {F : Type 0} (at : F → ℕ → SymbolView) (mark : FloorMar
   pub visits : Visits at mark config (member + 1) (first_turn bytes moment) (served_by desk) end last
       (ground before.floor edge.link edge.clock) after
   pub given : desks' ≡ option_map (λ each. slice_set each member (Some last)) desks
+  pub caught : end ≡ PeerEnd → IsUp last.session
+      → MovedOn (length config.symbols) (λ symbol. (at after.floor symbol).reports) desk.cursors last.cursors
 
 -- nothing was asked, for want of memory
 pub record NotBegun {F : Type 0} (end : LinkEnd) (before after : Ground F) : Type 0 where

@@ -1,8 +1,10 @@
+pub mod Catching
 pub mod Connections
 pub mod Greeting
 pub mod Growing
 pub mod Naming
 pub mod QuoteFiles
+pub mod Plans
 pub mod Quoting
 pub mod Rounds
 pub mod Sessions

@@ -11,6 +11,7 @@ use Rattle.member_gate.specs.Desks.{DeskView}
 use Rattle.link_work.specs.declared.ends.LinkEnd.{LinkEnd}
 use Rattle.link_work.specs.declared.ends.LinkEnd.TheVariants.{PeerEnd, LinkFault}
 use Rattle.link_work.specs.Turns.{LinkTurn, TurnsWere}
+use Rattle.serve_core.specs.Catching.{HasCaught}
 use Rattle.serve_core.specs.Rounds.{Served, Serves, Round, AreRounds, heard, put_by, commands_by, turns_of}
 use Rattle.serve_core.specs.Turning.{GrewBy, StoppedTurn}
 
@@ -45,11 +46,13 @@ pub record SoFar {F : Type 0} (at : F → ℕ → SymbolView) (config : Config) 
   pub seen : All (λ round. (symbol : ℕ) → StartsWith (at after.floor symbol).reports (round.looked symbol)) rounds
   pub turns : (symbol : ℕ) → symbol < length config.symbols
       → RoseBy (count_by (looks config) rounds) (at before.floor symbol).turns (at after.floor symbol).turns
+  pub caught : (entry : List ℕ) → HasCaught config (λ symbol. (at before.floor symbol).reports) entry start
+      → HasCaught config (λ symbol. (at after.floor symbol).reports) entry stop
 
 -- how a turn ends a session: the peer gave no more, and nothing else is done; or the turn was stopped
 abbrev pub TurnEnds : {F : Type 0} → (F → ℕ → SymbolView) → FloorMark → Config → ℕ → LinkTurn → Served → LinkEnd → DeskView → F → F → Option Told → Option Told → Type 0
 TurnEnds at mark config feed turn served end desk floor floor' link link' =
-    ((end ≡ PeerEnd) × (turn.answer ≡ ended) × (floor' ≡ floor) × (link' ≡ link))
+    ((end ≡ PeerEnd) × (turn.answer ≡ ended) × Serves desk served × (floor' ≡ floor) × (link' ≡ link))
     ⊎ StoppedTurn at mark config feed turn served end desk floor floor' link link'
 
 -- the last turn

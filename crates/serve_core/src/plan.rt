@@ -1,5 +1,7 @@
 //! What the words of a run ask for.
-ghost use Rattle.std.specs.Prelude.{◌≡◌, ◌≤◌, IfOk, IfSome};
+ghost use Rattle.std.specs.Prelude.{◌≡◌, ◌≤◌, Err, None, Some, map, IfOk, IfSome, MatchOption};
+ghost use Rattle.program_words.specs.Words.{texts};
+ghost use Rattle.serve_core.specs.Plans.{connections_of, form_in, form_of, plan_in, plan_of};
 
 use fix_fields::number;
 use program_words::{WordFault, read_words};
@@ -32,7 +34,8 @@ struct Form<'a> {
 
 /// A number of connections: from 1 to 64, in decimal digits without a leading zero.
 fn connections(word: &str) -> Option<u32>
-    ensures { IfSome result (λ count. (1 ≤ count) × (count ≤ 64)) }
+    ensures value { result ≡ connections_of word.now }
+    ensures few { IfSome result (λ count. (1 ≤ count) × (count ≤ 64)) }
 {
     let digits = word.as_bytes();
     if digits.first() == Some(&b'0') {
@@ -46,7 +49,9 @@ fn connections(word: &str) -> Option<u32>
 
 /// The form of the words that remain.
 fn form_of<'a>(words: &[&'a str]) -> Option<Form<'a>>
-    ensures { IfSome result (λ form. (1 ≤ form.connections) × (form.connections ≤ 64)) }
+    ensures value { MatchOption result (form_of (map (λ word. word.now) words.now) ≡ None)
+        (λ form. form_of (map (λ word. word.now) words.now) ≡ Some (form_in form)) }
+    ensures few { IfSome result (λ form. (1 ≤ form.connections) × (form.connections ≤ 64)) }
 {
     let (config, address, count, quotes) = match words {
         [config, address, count] => (*config, *address, *count, None),
@@ -64,7 +69,8 @@ fn form_of<'a>(words: &[&'a str]) -> Option<Form<'a>>
 
 /// A plan of its own words.
 fn plan_of(alloc: Global, form: &Form<'_>) -> Result<ServePlan, AllocError>
-    ensures { IfOk result (λ plan. plan.connections ≡ form.now.connections) }
+    ensures plan { IfOk result (λ plan. plan_in plan ≡ form_in form.now) }
+    ensures connections { IfOk result (λ plan. plan.connections ≡ form.now.connections) }
 {
     let config = String::from_str(alloc, form.config)?;
     let address = String::from_str(alloc, form.address)?;
@@ -83,7 +89,9 @@ fn plan_of(alloc: Global, form: &Form<'_>) -> Result<ServePlan, AllocError>
 /// What the words behind the program's name ask for: a config, an address and a number of connections, and maybe a file of
 /// quotes.
 pub fn serve_words(alloc: Global, words: &[String]) -> Result<ServePlan, WordFault>
-    ensures { IfOk result (λ plan. (1 ≤ plan.connections) × (plan.connections ≤ 64)) }
+    ensures plan { IfOk result (λ plan. plan_of (texts words.now) ≡ Some (plan_in plan)) }
+    ensures bad_words { result ≡ Err WordFault.BadWords → plan_of (texts words.now) ≡ None }
+    ensures few { IfOk result (λ plan. (1 ≤ plan.connections) × (plan.connections ≤ 64)) }
 {
     let read = match read_words(alloc, words) {
         Ok(read) => read,

@@ -1,5 +1,10 @@
 //! What a run begins with: its plan and its config.
-ghost use Rattle.std.specs.Prelude.{◌≡◌, ◌≤◌, IfOk, Err};
+ghost use Rattle.std.specs.Prelude.{◌≡◌, ◌≢◌, ◌≤◌, IfOk, IfSome, IsNone, IsTrue, Err, Some, None};
+ghost use Rattle.io_edge.specs.Files.{HasFile, file_named};
+ghost use Rattle.line_reader.specs.ConfigFile.{config_file};
+ghost use Rattle.program_words.specs.Words.{texts};
+ghost use Rattle.venue_words.specs.declared.limits.TheConstants.{MAX_CONFIG_BYTES};
+ghost use Rattle.serve_core.specs.Plans.{IsRefusedFor, MeetsSetup, Plan, plan_in, plan_of};
 ghost use Rattle.venue_words.specs.Causes.{Rose};
 ghost use Rattle.venue_words.specs.Conditions.{IsConfig};
 ghost use Rattle.serve_core.specs.Setups.{of_words, of_config};
@@ -56,6 +61,19 @@ pub fn serve_setup<H: Shelf>(
     words: &[String],
     shelf: &mut H,
 ) -> Result<(ServePlan, Config), SetupFault>
+    ensures plan { IfOk result (λ setup. plan_of (texts words.now) ≡ Some (plan_in setup.0)) }
+    ensures bad_words { result ≡ Err SetupFault.BadWords → plan_of (texts words.now) ≡ None }
+    ensures no_plan { plan_of (texts words.now) ≡ None → IsRefusedFor SetupFault.BadWords result }
+
+    // On a shelf that tells its files the config is that of the named file's bytes, or its first line that is refused is told; a
+    // file that is not there is a read fault.
+    ensures meant { (plan : Plan) → plan_of (texts words.now) ≡ Some plan → IfSome (H.told shelf.old) (λ files.
+        IfSome (file_named files plan.config) (λ text. MeetsSetup (config_file MAX_CONFIG_BYTES text) result)) }
+    ensures missing { (plan : Plan) → plan_of (texts words.now) ≡ Some plan → IfSome (H.told shelf.old) (λ files.
+        IsNone (file_named files plan.config) → IsRefusedFor SetupFault.ReadFault result) }
+    ensures sure { IsTrue (H.sure shelf.old) → (plan : Plan) → plan_of (texts words.now) ≡ Some plan →
+        HasFile (H.told shelf.old) plan.config → result ≢ Err SetupFault.ReadFault }
+
     ensures config { IfOk result (λ setup. IsConfig setup.1) }
     ensures connections { IfOk result (λ setup. (1 ≤ setup.0.connections) × (setup.0.connections ≤ 64)) }
     ensures later { H.faults shelf.old ≤ H.faults shelf.new }

@@ -3,6 +3,7 @@ use Rattle.std.proofs.Common.{◌≡◌, ◌+◌, ℤ, ℕ, List, subst, inr, w6
 use Rattle.serve_core.specs.Connections.{Visits, first_turn, served_by}
 use Rattle.serve_core.specs.Naming.{edge}
 use Rattle.serve_core.specs.Sessions.{ground}
+use Rattle.serve_core.proofs.Catching.{caught_at_end}
 use Rattle.serve_core.proofs.Connecting.{given_back, stood_at}
 use Rattle.serve_core.proofs.serving.serve_over.Goals as goal
 
@@ -33,4 +34,7 @@ returns-clause-connection g c =
           e visits;
       given = given_back desks (g.D.Desks.told c.take.new.self) (g.D.Desks.told c.give.new.self) greeted.member last
           c.take.ensures.told c.give.ensures.told;
+      caught = caught_at_end g.F.Floor.at (g.F.Floor.mark c.args.floor.now) c.args.config.now (greeted.member + 1)
+          (first_turn greeted.bytes.items (to_z w64 (of_z w64 greeted.moment))) c.in-Some.desk last c.serve_member-end.result before after
+          visits;
     }))
