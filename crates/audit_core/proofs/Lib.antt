@@ -1,3 +1,4 @@
+pub mod Filing
 pub mod Awaiting
 pub mod Clearing
 pub mod Coming

@@ -1,9 +1,10 @@
 -- Which texts are listings of a config: those of journals, with the reports that the market's rules make of them.
-use Rattle.std.specs.Prelude.{◌≡◌, ◌≤◌, ℕ, ◌+◌, true, List, [], ◌∷◌, length, slice_index, Ok, IfSome}
+use Rattle.std.specs.Prelude.{◌≡◌, ◌≤◌, ℕ, ◌+◌, true, List, [], ◌∷◌, length, slice_index, Ok, Some, IfSome}
 use Rattle.std.specs.List.{AllByRecursion}
 use Rattle.io_edge.specs.Files.{Files, file_named}
 use Rattle.venue_words.specs.declared.limits.TheConstants.{MAX_CONFIG_BYTES}
-use Rattle.line_reader.specs.ConfigFile.{config_file}
+use Rattle.line_reader.specs.ConfigFile.{config_file, IsMeant}
+use Rattle.line_reader.specs.declared.config_file.ConfigFault.{ConfigFault}
 use Rattle.venue_words.specs.declared.command.Event.{Event}
 use Rattle.venue_words.specs.declared.config.Config.{Config}
 use Rattle.eager_meaning.specs.Step.{Run, IsNumbered, runs}
@@ -42,9 +43,25 @@ pub record IsListing (config : Config) (text : List ℕ) : Type 0 where
 
 -- ---- files
 
+-- a file says a config
+pub record HasConfig (files : Files) (name : List ℕ) (config : Config) : Type 0 where
+  pub text : List ℕ
+  pub found : file_named files name ≡ Some text
+  pub bytes : ℕ
+  pub says : config_file MAX_CONFIG_BYTES text ≡ Ok (config, bytes)
+
 -- a file says a config, and another is the listing of journals of it
 pub record HasListing (files : Files) (config listing : List ℕ) : Type 0 where
   pub of : Config
-  pub bytes : ℕ
-  pub says : IfSome (file_named files config) (λ text. config_file MAX_CONFIG_BYTES text ≡ Ok (of, bytes))
-  pub lists : IfSome (file_named files listing) (IsListing of)
+  pub says : HasConfig files config of
+  pub text : List ℕ
+  pub found : file_named files listing ≡ Some text
+  pub lists : IsListing of text
+
+-- the text of a file
+abbrev pub OfText : Files → List ℕ → (List ℕ → Type 0) → Type 0
+OfText files name P = IfSome (file_named files name) P
+
+-- the config's file has this fault, where the fault is none of the outside
+abbrev pub IsConfigFault : Files → List ℕ → ConfigFault → Type 0
+IsConfigFault files name fault = OfText files name (λ text. IsMeant (config_file MAX_CONFIG_BYTES text) fault)

@@ -1,9 +1,14 @@
 //! An audit of a listing by its files.
-ghost use Rattle.std.specs.Prelude.{◌≡◌, ◌≢◌, ◌≤◌, Ok, Err, IfSome, IsTrue};
-ghost use Rattle.io_edge.specs.Files.{HasFile};
+ghost use Rattle.std.specs.Prelude.{◌≡◌, ◌≤◌, ◌<◌, ◌⊎◌, ℕ, List, Option, false, length, Ok, Err, IfSome};
 ghost use Rattle.venue_words.specs.Causes.{Rose};
 ghost use Rattle.line_reader.specs.declared.config_file.ConfigFault.TheVariants as config_fault;
-ghost use Rattle.audit_core.specs.Audited.{HasListing};
+ghost use Rattle.line_reader.specs.declared.config_file.ConfigFault.{ConfigFault};
+ghost use Rattle.listing_reader.specs.Fitting.{has_word_names};
+ghost use Rattle.venue_words.specs.declared.config.Config.{Config};
+ghost use Rattle.audit_core.specs.Audited.{HasConfig, HasListing, IsConfigFault, IsListing, OfText};
+ghost use Rattle.audit_core.specs.Differing.{DiffersAt, IsLongLine};
+ghost use Rattle.audit_core.specs.Names.{has_line_names};
+ghost use Rattle.audit_core.specs.declared.verdict.TheConstants.{MAX_LISTING_BYTES};
 
 use crate::names::has_line_names;
 use crate::verdict::{AuditFault, Verdict, verify};
@@ -40,8 +45,25 @@ pub fn audit<H: Shelf, L: Ledger>(
     shelf: &mut H,
     steps: &mut Steps<L>,
 ) -> Result<Verdict, AuditRefusal>
+    // On a shelf that tells its files: with `Same` the one file is the listing of the config in the other. With a line that
+    // differs it is none, and the line is the first with which it can be none.
     ensures same { result ≡ Ok Verdict.Same → IfSome (H.told shelf.old) (λ all.
         HasListing all files.entry.config.now files.entry.listing.now) }
+    ensures exact { (line : ℕ) (expected : Option (List ℕ)) → result ≡ Ok (Verdict.Differs line expected) →
+        IfSome (H.told shelf.old) (λ all. HasListing all files.entry.config.now files.entry.listing.now → ⊥) }
+    ensures differs { (line : ℕ) (expected : Option (List ℕ)) → result ≡ Ok (Verdict.Differs line expected) →
+        IfSome (H.told shelf.old) (λ all. (config : Config) → HasConfig all files.entry.config.now config →
+        OfText all files.entry.listing.now (λ text. DiffersAt (IsListing config) text line expected)) }
+
+    // Every other answer has its cause.
+    ensures config { (fault : ConfigFault) → result ≡ Err (AuditRefusal.Config fault) → IfSome (H.told shelf.old) (λ all.
+        IsConfigFault all files.entry.config.now fault) }
+    ensures split { result ≡ Err AuditRefusal.SplitName → IfSome (H.told shelf.old) (λ all. (config : Config) →
+        HasConfig all files.entry.config.now config → (has_word_names config ≡ false) ⊎ (has_line_names config ≡ false)) }
+    ensures long { (line : ℕ) → result ≡ Err (AuditRefusal.Listing (AuditFault.LongLine line)) → IfSome (H.told shelf.old) (λ all.
+        OfText all files.entry.listing.now (λ text. IsLongLine text line)) }
+    ensures large { result ≡ Err (AuditRefusal.Listing AuditFault.TooLarge) → IfSome (H.told shelf.old) (λ all.
+        OfText all files.entry.listing.now (λ text. MAX_LISTING_BYTES < length text)) }
     ensures told { H.told shelf.new ≡ H.told shelf.old }
     ensures later { H.faults shelf.old ≤ H.faults shelf.new }
     ensures config_fault { result ≡ Err (AuditRefusal.Config config_fault.ReadFault) → Rose (H.faults shelf.old) (H.faults shelf.new) }
