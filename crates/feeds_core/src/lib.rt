@@ -11,6 +11,7 @@ mod feed_list;
 mod feed_lists;
 mod feed_text;
 mod files;
+mod giving_back;
 mod joining;
 mod listing_floor;
 mod looking;

@@ -14,6 +14,7 @@ ghost use Rattle.feeds_core.specs.Working.{AreSound, IsStopped, listing_status};
 use crate::feed_list::FeedList;
 use crate::feed_lists::list_feeds;
 use crate::feed_text::FeedText;
+use crate::giving_back::give_back;
 use crate::putting::put_books;
 use crate::refused::first_refused;
 use crate::status::{FeedsStatus, refused_at};
@@ -99,7 +100,10 @@ pub fn work_texts<R: Threads + Wait + Sync, P: Pace + Sync, K: Sink>(
     let commands = commands_of(alloc, lists)?;
     let books = work_on_venue(rt, alloc, HashSeed::fixed(), config, pace, commands)?;
     match put_books(rt, alloc, config, books.as_slice(), out) {
-        Ok(()) => Ok(()),
+        Ok(()) => {
+            give_back(rt, books);
+            Ok(())
+        }
         Err(fault) => Err(listing_status(fault)),
     }
 }

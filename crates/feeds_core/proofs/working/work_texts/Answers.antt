@@ -28,8 +28,8 @@ returns-in-Ok-clause-outcome g c = λ already feeds kept.
     (subst (λ (bs : List BookView). Appends (g.K.Sink.told c.args.out.now) (g.K.Sink.told c.put_books.new.out) (listing_of c.args.config.now (journals_of bs)))
     c.as_slice.ensures.value c.in-Ok.ensures.text)
 
-pub returns-clause-outcome : goal.returns-clause-outcome
-returns-clause-outcome g c = λ already feeds kept.
+pub returns-in-Err-clause-outcome : goal.returns-in-Err-clause-outcome
+returns-in-Err-clause-outcome g c = λ already feeds kept.
     let config = c.args.config.now in
     let old = g.K.Sink.told c.args.out.now in
     let new = g.K.Sink.told c.put_books.new.out in
