@@ -1,8 +1,0 @@
-use Rattle.std.proofs.Common.{◌≤◌, IsTrue}
-use Rattle.line_trials.proofs.tests.readers.lines.told.Given as goal
-
-abbrev pub invariant-loop : goal.invariant-loop
-invariant-loop g l = record {
-  begun : IsTrue (g.H.Shelf.begun l.file);
-  within : l.reader.bytes ≤ l.reader.most;
-}

@@ -1,0 +1,67 @@
+//! Plays worked cases: repeats each line of standard input with what comes of it. A line is a word and its input, in which `|`
+//! stands for SOH and `\HH` for any byte, and which may be in quotation marks and repeat a part; a line that is empty or begins with
+//! `#` says nothing.
+#![tactic(auto)]
+
+mod frames;
+mod numbers;
+mod orders;
+mod reports;
+mod sessions;
+mod writing;
+
+use case_text::{Told, expanded};
+use script_text::unescape;
+use sessions::Desk;
+use std::alloc::Global;
+use std::io;
+use venue_words::NoMemory;
+
+/// Tells what comes of a word and its input.
+fn play_word(desk: &mut Desk, word: &str, input: &[u8], told: &mut Told) -> Result<bool, NoMemory> {
+    Ok(
+        numbers::play(word, input, told)
+            || writing::play(word, input, told)?
+            || frames::play(word, input, told)?
+            || sessions::play(desk, word, input, told)?
+            || orders::play(word, input, told)?
+            || reports::play(word, input, told)?,
+    )
+}
+
+/// Tells what comes of a line.
+fn play(desk: &mut Desk, line: &str, told: &mut Told) -> Result<(), NoMemory> {
+    if line.is_empty() || line.starts_with('#') {
+        return Ok(());
+    }
+    let (word, text) = line.split_once(' ').unwrap_or((line, ""));
+    let text = expanded(told.alloc, text.as_bytes())?;
+    match unescape(told.alloc, text.as_slice())? {
+        Some(input) => {
+            if !play_word(desk, word, input.as_slice(), told)? {
+                told.word("no such word");
+            }
+        }
+        None => told.word("no text"),
+    }
+    Ok(())
+}
+
+fn out_of_memory(_: NoMemory) -> io::Error {
+    io::Error::from(io::ErrorKind::OutOfMemory)
+}
+
+fn main(rt: HostRuntime) -> io::Result<()> {
+    let mut desk = Desk::new(rt.alloc()).map_err(out_of_memory)?;
+    for line in rt.lines(rt.alloc()) {
+        let line = line?;
+        let mut told = Told::new(rt.alloc(), line.as_str())?;
+        play(&mut desk, line.as_str(), &mut told).map_err(out_of_memory)?;
+        if told.is_short {
+            return Err(out_of_memory(NoMemory));
+        }
+        let text = told.text;
+        println!(rt; "{text}")?;
+    }
+    Ok(())
+}

@@ -1,0 +1,107 @@
+//! Orders as members write them, and the rules that they break.
+use crate::sessions::Desk;
+use case_text::{Told, Words};
+use exec_reports::{body, kind};
+use order_fields::{Decoded, Known, Refusal, read_order, verdict};
+use std::alloc::{AllocError, Global};
+use venue_words::{Bytes, Command, Config, Items, NoMemory, Report, Side};
+
+/// A config of member A, market N and symbol X.
+fn config_of(alloc: Global) -> Result<Config, AllocError> {
+    Ok(Config {
+        members: Items(vec![in alloc; Bytes::copy_of(alloc, b"A")?]?),
+        markets: Items(vec![in alloc; Bytes::copy_of(alloc, b"N")?]?),
+        symbols: Items(vec![in alloc; Bytes::copy_of(alloc, b"X")?]?),
+        limits: Items(vec![in alloc; 100]?),
+        ticks: Items(vec![in alloc; 2]?),
+        begin: 0,
+    })
+}
+
+/// What a message of member A behind its Logon is read as, at the moment 7.
+fn read(alloc: Global, content: &[u8]) -> Result<Result<Decoded, Refusal>, NoMemory> {
+    let config = config_of(alloc)?;
+    let turn = Desk::logged_on(alloc)?.take(alloc, content)?;
+    match &turn.request {
+        Some(request) if config.symbols.len() == 1 => {
+            Ok(read_order(alloc, request, 0, &config, 7))
+        }
+        _ => Err(NoMemory),
+    }
+}
+
+/// Tells the type and the body of a report about a symbol to member A.
+pub fn tell_report(report: &Report, symbol: &[u8], told: &mut Told) -> Result<(), NoMemory> {
+    told.line(&[kind(report)]);
+    told.push(" ");
+    let text = body(told.alloc, report, symbol, b"A")?;
+    told.bytes(text.as_slice());
+    Ok(())
+}
+
+/// Tells what an order asks for.
+fn tell_decoded(decoded: &Decoded, told: &mut Told) -> Result<(), NoMemory> {
+    match decoded {
+        Decoded::Book {
+            symbol,
+            command: Command::New { member, id, terms },
+        } => {
+            told.word("new for symbol ");
+            told.show(symbol);
+            told.push(" of member ");
+            told.show(member);
+            told.push(": ");
+            told.bytes(id.as_slice());
+            told.code(terms);
+            Ok(())
+        }
+        Decoded::Book { .. } => {
+            told.word("for a book");
+            Ok(())
+        }
+        Decoded::Stray { report } => {
+            told.word("stray of member ");
+            told.show(&report.member);
+            tell_report(report, b"ZZ", told)
+        }
+    }
+}
+
+/// Tells the first rule that a message breaks: `rule [used] [live] [cum=NUMBER] tick=NUMBER CONTENT`.
+fn tell_rule(input: &[u8], told: &mut Told) -> Result<(), NoMemory> {
+    let words = Words::new(told.alloc, input)?;
+    let known = Known {
+        used: words.has(b"used"),
+        live: words.has(b"live"),
+        side: Side::Buy,
+        cum: words.number(b"cum").unwrap_or(0),
+        tick: words.number(b"tick").unwrap_or(0),
+    };
+    if known.tick != 2 && known.tick != 10 {
+        told.word("no tick");
+        return Ok(());
+    }
+    let content = words.list.last().copied().unwrap_or(&[]);
+    let Ok(Decoded::Book { command, .. }) = read(told.alloc, content)? else {
+        told.word("not for a book");
+        return Ok(());
+    };
+    match verdict(&command, &known) {
+        Some(rule) => told.value(&rule.0),
+        None => told.word("none"),
+    }
+    Ok(())
+}
+
+/// `order` tells what a message asks for, and `rule` the first rule that it breaks.
+pub fn play(word: &str, input: &[u8], told: &mut Told) -> Result<bool, NoMemory> {
+    match word {
+        "order" => match read(told.alloc, input)? {
+            Ok(decoded) => tell_decoded(&decoded, told)?,
+            Err(refusal) => told.code(&refusal),
+        },
+        "rule" => tell_rule(input, told)?,
+        _ => return Ok(false),
+    }
+    Ok(true)
+}

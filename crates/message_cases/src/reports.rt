@@ -1,0 +1,123 @@
+//! Reports as members are told them.
+use crate::orders::tell_report;
+use case_text::{Told, Words};
+use fix_fields::{amount, number};
+use std::alloc::AllocError;
+use venue_words::{
+    Execution, Kind, LiveOrder, NamedOrder, NoMemory, OrderStatus, RefusedRequest, Report, Rule,
+    Side, View,
+};
+
+/// 2024-01-02 14:30:00 UTC, the moment of all events.
+const MOMENT: i64 = 1_704_205_800_000;
+
+/// An order; one with `leaves` is live.
+fn view_of(words: &Words<'_>) -> Result<View, AllocError> {
+    let live = match words.number(b"leaves") {
+        Some(leaves) => Some(LiveOrder {
+            leaves,
+            price: words.number(b"price"),
+            time: words.number(b"time").unwrap_or(0),
+        }),
+        None => None,
+    };
+    Ok(View {
+        first: words.number(b"first").unwrap_or(0),
+        id: words.copy(b"id")?,
+        side: if words.has(b"sell") {
+            Side::Sell
+        } else {
+            Side::Buy
+        },
+        quantity: words.number(b"quantity").unwrap_or(0),
+        pegged: words.has(b"pegged"),
+        limit: words.number(b"limit"),
+        cum: words.number(b"cum").unwrap_or(0),
+        notional: u64::from(words.number(b"notional").unwrap_or(0)),
+        live,
+    })
+}
+
+/// What became of an order, by the word behind event and place.
+fn execution_of(words: &Words<'_>) -> Result<Execution, AllocError> {
+    Ok(match words.at(2) {
+        b"accepted" => Execution::Accepted,
+        b"traded" => Execution::Traded {
+            quantity: words.number(b"shares").unwrap_or(0),
+            price: words.number(b"at").unwrap_or(0),
+        },
+        b"canceled" => Execution::Canceled {
+            orig: match words.value(b"orig") {
+                Some(_) => Some(words.copy(b"orig")?),
+                None => None,
+            },
+        },
+        b"replaced" => Execution::Replaced {
+            orig: words.copy(b"orig")?,
+        },
+        _ => Execution::Status,
+    })
+}
+
+fn rule_of(words: &Words<'_>) -> Rule {
+    Rule(words.number(b"rule").unwrap_or(0).min(255) as u8)
+}
+
+/// A Cancel or Replace that was refused.
+fn refused_of(words: &Words<'_>, request: RefusedRequest) -> Result<Kind, AllocError> {
+    let order = match words.number(b"first") {
+        Some(first) => Some(NamedOrder {
+            first,
+            status: OrderStatus::of_live(words.number(b"cum").unwrap_or(0)),
+        }),
+        None => None,
+    };
+    Ok(Kind::Refused {
+        id: words.copy(b"id")?,
+        orig: words.copy(b"orig")?,
+        order,
+        request,
+        rule: rule_of(words),
+    })
+}
+
+/// What a report says, by the word behind event and place.
+fn kind_of(words: &Words<'_>) -> Result<Kind, AllocError> {
+    Ok(match words.at(2) {
+        b"rejected" => Kind::Rejected {
+            id: words.copy(b"id")?,
+            side: words.byte(b"side"),
+            quantity: words.value(b"quantity").and_then(amount).unwrap_or(0),
+            rule: rule_of(words),
+        },
+        b"unknown" => Kind::Unknown {
+            id: words.copy(b"id")?,
+            side: words.byte(b"side"),
+        },
+        b"refused_cancel" => refused_of(words, RefusedRequest::Cancel)?,
+        b"refused_replace" => refused_of(words, RefusedRequest::Replace)?,
+        _ => Kind::Order {
+            view: view_of(words)?,
+            execution: execution_of(words)?,
+        },
+    })
+}
+
+/// `report EVENT PLACE KIND [NAME[=VALUE]]..` tells the type and the body of a report: of symbol ZZ where the event is 0, and
+/// else of X.
+pub fn play(word: &str, input: &[u8], told: &mut Told) -> Result<bool, NoMemory> {
+    if word != "report" {
+        return Ok(false);
+    }
+    let words = Words::new(told.alloc, input)?;
+    let event = number(words.at(0)).unwrap_or(0);
+    let report = Report {
+        event,
+        place: number(words.at(1)).unwrap_or(0),
+        member: 0,
+        moment: MOMENT,
+        kind: kind_of(&words)?,
+    };
+    tell_report(&report, if event == 0 { b"ZZ" } else { b"X" }, told)?;
+    Ok(true)
+}
