@@ -3,16 +3,18 @@ use Rattle.std.proofs.Common.{◌≡◌, ◌⊎◌, ◌==◌, inl, inr, length, 
 use Rattle.std.specs.Prelude.{codes}
 use Rattle.fix_frames.specs.declared.reading.Reading.{Reading}
 use Rattle.fix_frames.specs.Reading.{none_yet, with_frames, reading_of}
+use Rattle.fix_frames.specs.Streams.{Stream, HasGiven, HasWaited, HasExceeded}
 use Rattle.session_core.specs.declared.turn.Turn.{Turn}
 use Rattle.session_core.specs.Answers.{drops, logs_out}
 use Rattle.session_core.specs.Cases.{on_too_long}
-use Rattle.session_core.specs.Machine.{Machine, IsOver, rests, sent_now, replies_of, carried_out, ends_too_long, on_overlong}
+use Rattle.session_core.specs.Machine.{Machine, IsOver, rests, sent_now, replies_of, carried_out, ends_too_long, on_frame, on_overlong}
 use Rattle.session_core.specs.declared.state.EndCause.TheVariants.{TooLong}
 use Rattle.session_core.specs.declared.state.State.{State}
 use Rattle.session_core.specs.Plan.{stays}
 use Rattle.session_core.specs.State.{ended, is_over, is_up}
 use Rattle.session_stream.specs.Hearing.{TakesFrame, Exceeds, Waits, IsUnderway, Reads}
-use Rattle.session_stream.specs.Work.{Work, idle, then_work, answered, work_of_reading}
+use Rattle.session_stream.specs.AnsweringLaws.{takes_frame, waits, exceeds}
+use Rattle.session_stream.specs.Work.{Work, idle, then_work, answered, work_of_frame, work_at_limit, work_of_reading}
 use Rattle.session_stream.specs.WorkLaws.{work_of_turn, underway_none, underway_more, underway_waits, underway_whole, underway_long}
 use Rattle.drop_copy.specs.Answering.{refuses}
 use Rattle.drop_copy.specs.Desks.{AreUnread}
@@ -101,3 +103,33 @@ gone_long moment first bytes replies now later old new unread next turn g x r =
           ∙ ap (λ (k : Work). replies ++ k.replies) (sym long);
       unread_is = inl (subst (λ (m : Machine). IsOver m) (sym x.machine) (long_over old moment));
     }
+
+-- ---- by what the framer answers
+
+-- a frame was given, and worked
+pub going_frame : (moment : ℤ) (first : Machine) (bytes : List ℕ) (replies now later : List (List ℕ)) (old new : Machine) (stream rest : Stream) (frame : List ℕ)
+    → Going moment first bytes replies old stream.kept now → HasGiven stream rest frame
+    → new ≡ (work_of_frame (refuses moment) moment old frame).session
+    → later ≡ now ++ (work_of_frame (refuses moment) moment old frame).replies
+    → Going moment first bytes replies new rest.kept later
+unfolding work_of_frame
+going_frame moment first bytes replies now later old new stream rest frame g given s r =
+    let outcome = on_frame old frame moment in
+    going_more moment first bytes replies now later old outcome.machine new stream.kept rest.kept outcome.turn g
+    (takes_frame moment moment old outcome.machine stream rest frame outcome.turn refl given refl refl) s r
+
+-- there is no further frame yet
+pub gone_waited : (moment : ℤ) (first : Machine) (bytes : List ℕ) (replies now : List (List ℕ)) (old : Machine) (stream rest : Stream)
+    → Going moment first bytes replies old stream.kept now → HasWaited stream rest → Gone moment first bytes replies old rest.kept now
+gone_waited moment first bytes replies now old stream rest g waited =
+    gone_whole moment first bytes replies now old old stream.kept rest.kept g (waits old stream rest waited)
+
+-- the next frame is too long
+pub gone_exceeded : (moment : ℤ) (first : Machine) (bytes : List ℕ) (replies now later : List (List ℕ)) (old new : Machine) (stream rest : Stream)
+    → Going moment first bytes replies old stream.kept now → HasExceeded stream rest
+    → new ≡ (work_at_limit moment old).session → later ≡ now ++ (work_at_limit moment old).replies
+    → Gone moment first bytes replies new rest.kept later
+gone_exceeded moment first bytes replies now later old new stream rest g exceeded s r =
+    let turn = (on_overlong old moment).turn in
+    gone_long moment first bytes replies now later old new stream.kept rest.kept turn g
+    (exceeds moment moment old new stream rest turn refl exceeded s refl) r

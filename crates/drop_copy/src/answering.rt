@@ -1,25 +1,25 @@
 //! What the frames of a drop session's stream make of it.
-ghost use Rattle.std.specs.Prelude.{◌≡◌, ◌⊎◌, ◌++◌, ◌∷◌, [], length, IfOk, OnOk, OnErr, OnSome};
+ghost use Rattle.std.specs.Prelude.{◌≡◌, ◌≤◌, ◌⊎◌, ◌++◌, ◌∷◌, [], length, IfOk, OnOk, OnErr, OnSome};
 ghost use Rattle.fix_frames.specs.Reading.{reading_of};
 ghost use Rattle.session_core.specs.Machine.{IsUp, IsOver};
-ghost use Rattle.session_stream.specs.Work.{answered, work_of_reading};
+ghost use Rattle.session_stream.specs.Work.{answered, work_of_frame, work_at_limit, work_of_reading};
 ghost use Rattle.drop_copy.specs.Answering.{refuses};
 ghost use Rattle.drop_copy.specs.Desks.{AreUnread};
 
-use fix_frames::Framer;
+use fix_frames::{Framer, Next};
 use member_gate::business::{BUSINESS_REJECT, business_body};
 use session_core::lookup::text_in;
 use session_core::tags::MSG_TYPE;
 use session_core::{Request, Session, Turn};
-use session_stream::{Heard, hear};
 use std::alloc::Global;
+use venue_words::limits::MAX_FRAME_BYTES;
 use venue_words::{Bytes, NoMemory};
 
 /// Answers a message that the session handed out: it takes none.
 fn refuse(
     alloc: Global,
     session: &mut Session,
-    request: &Request,
+    request: &Request<'_>,
     moment: i64,
 ) -> Result<Bytes, NoMemory>
     requires { IsUp session.old }
@@ -36,14 +36,14 @@ fn refuse(
 fn work_turn(
     alloc: Global,
     session: &mut Session,
-    turn: Turn,
+    turn: Turn<'_>,
     moment: i64,
     replies: &mut Vec<Bytes>,
 ) -> Result<(), NoMemory>
     requires { OnSome turn.request (IsUp session.old) }
-    ensures session { OnOk result (session.new ≡ (answered (refuses moment) session.old turn.request).session) }
+    ensures session { OnOk result (session.new ≡ (answered (refuses moment) session.old turn.entry.request).session) }
     ensures replies { OnOk result (replies.new.items
-        ≡ replies.old.items ++ (turn.replies ++ (answered (refuses moment) session.old turn.request).replies)) }
+        ≡ replies.old.items ++ (turn.entry.replies ++ (answered (refuses moment) session.old turn.entry.request).replies)) }
 {
     let mut own = turn.replies.into_vec();
     replies.append(&mut own)?;
@@ -57,10 +57,35 @@ fn work_turn(
     Ok(())
 }
 
-/// Adds what the turn sends that ends a connection.
-fn work_last(turn: Turn, replies: &mut Vec<Bytes>) -> Result<(), NoMemory>
-    ensures { OnOk result (replies.new.items ≡ replies.old.items ++ turn.replies) }
+/// Works a frame: what the session sends for it is added, and the answer to the message that it hands out, if any. After a
+/// refusal some of them may be added.
+#[tactic(auto, unfolding(session_stream::specs::Work::work_of_frame))]
+fn work_frame(
+    alloc: Global,
+    session: &mut Session,
+    frame: &[u8],
+    moment: i64,
+    replies: &mut Vec<Bytes>,
+) -> Result<(), NoMemory>
+    requires { length frame.now ≤ MAX_FRAME_BYTES }
+    ensures session { OnOk result (session.new ≡ (work_of_frame (refuses moment) moment session.old frame.now).session) }
+    ensures replies { OnOk result (replies.new.items
+        ≡ replies.old.items ++ (work_of_frame (refuses moment) moment session.old frame.now).replies) }
 {
+    let turn = session.take(frame, moment)?;
+    work_turn(alloc, session, turn, moment, replies)
+}
+
+/// The connection ends, since the next frame is too long. What is sent then is added.
+fn end_too_long(
+    session: &mut Session,
+    moment: i64,
+    replies: &mut Vec<Bytes>,
+) -> Result<(), NoMemory>
+    ensures session { OnOk result (session.new ≡ (work_at_limit moment session.old).session) }
+    ensures replies { OnOk result (replies.new.items ≡ replies.old.items ++ (work_at_limit moment session.old).replies) }
+{
+    let turn = session.too_long(moment)?;
     let mut own = turn.replies.into_vec();
     replies.append(&mut own)?;
     Ok(())
@@ -81,11 +106,15 @@ pub fn work_frames(
     ensures unread { OnOk result (IsOver session.new ⊎ AreUnread framer.old.kept framer.new.kept) }
 {
     'frames: loop {
-        let turn = match hear(framer, session, moment)? {
-            Heard::Frame(turn) => turn,
-            Heard::TooLong(turn) => return work_last(turn, replies),
-            Heard::Wait => return Ok(()),
-        };
-        work_turn(alloc, session, turn, moment, replies)?;
+        match framer.next() {
+            Next::Frame(frame) => {
+                work_frame(alloc, session, frame, moment, replies)?;
+            }
+            Next::Wait => return Ok(()),
+            Next::TooLong => {
+                end_too_long(session, moment, replies)?;
+                return Ok(());
+            }
+        }
     }
 }

@@ -112,7 +112,7 @@ impl DropDesk {
     /// to be sent comes back. The turn hands no message out. After a connection ended nothing is worked, and no byte is kept,
     /// until `open`. Where memory is wanted the connection ends without a cause, and what was to be sent is lost, though its
     /// numbers may be used.
-    pub fn take(&mut self, moment: i64, piece: &[u8]) -> Result<Turn, NoMemory>
+    pub fn take(&mut self, moment: i64, piece: &[u8]) -> Result<Turn<'static>, NoMemory>
         // What is sent, and the session behind it, are those of the piece's frames.
         ensures turn { IfOk result (λ turn. turn
             ≡ sending self.new.session (work_of_piece moment self.old piece.now).replies) }
@@ -204,7 +204,7 @@ impl DropDesk {
 
     /// The clock says this moment, in milliseconds since 1970-01-01 00:00 UTC: the session sends at most one message, or ends the
     /// connection where its peer is silent. Where memory is wanted the connection ends without a cause.
-    pub fn tick(&mut self, moment: i64) -> Result<Turn, NoMemory>
+    pub fn tick(&mut self, moment: i64) -> Result<Turn<'static>, NoMemory>
         ensures session { OnOk result (self.new
             ≡ record self.old { session = (on_clock self.old.session moment).machine }) }
         ensures turn { IfOk result (λ turn. turn

@@ -18,7 +18,11 @@ use session_core::Turn;
 use venue_words::{Config, Floor};
 
 /// The input of a turn: what the session sends for it at once.
-pub fn hear_input(desk: &mut DropDesk, asked: Asked, buffer: &[u8]) -> Result<Turn, LinkEnd>
+pub fn hear_input(
+    desk: &mut DropDesk,
+    asked: Asked,
+    buffer: &[u8],
+) -> Result<Turn<'static>, LinkEnd>
     requires { IsInside asked.pulled buffer.now }
     ensures heard { IfOk result (λ turn. HeardInput (turn_of asked buffer.now) desk.old desk.new) }
     ensures replies { IfOk result (λ turn. turn.replies ≡ (work_in (turn_of asked buffer.now) desk.old).replies) }

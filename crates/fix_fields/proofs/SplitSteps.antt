@@ -79,7 +79,6 @@ at_end bytes at None found meant (suc fuel) l none room e =
     sym e ∙ ap (λ (r : List ℕ). with_front found (split_from (suc fuel) (length bytes) None r)) empty ∙ ap all_fields (append-nil found)
 
 -- the same for a list and data that equal the new ones
-pub goes_on : (bytes : List ℕ) (at : ℕ) (due : Option Due) (found : List Field) (field : Field) (size : ℕ) (meant : Result (List Field) FieldFault) (fuel : ℕ) (more : List Field) (next : Option Due) (value : List ℕ) → at ≤ length bytes → IsMore due (drop at bytes) → length bytes - at < fuel → with_front found (split_from fuel (length bytes) due (drop at bytes)) ≡ meant → cut_at at due (take (length bytes - at) (drop at bytes)) ≡ Ok (record { field = field; size = size }) → 0 < size → at + size ≤ length bytes → more ≡ found ++ field ∷ [] → next ≡ data_behind field.tag value → value ≡ field.bytes → (x : ℕ) × (length bytes - (at + size) < x) × (with_front more (split_from x (length bytes) next (drop (at + size) bytes)) ≡ meant)
-goes_on bytes at due found field size meant fuel more next value inside is_more room e cut positive fits m n v =
-    let next' : next ≡ data_behind field.tag field.bytes = n ∙ ap (λ (b : List ℕ). data_behind field.tag b) v in
-    rw (m, next') (go_on bytes at due found field size meant fuel inside is_more room e cut positive fits)
+pub goes_on : (bytes : List ℕ) (at : ℕ) (due : Option Due) (found : List Field) (field : Field) (size : ℕ) (meant : Result (List Field) FieldFault) (fuel : ℕ) (more : List Field) (next : Option Due) → at ≤ length bytes → IsMore due (drop at bytes) → length bytes - at < fuel → with_front found (split_from fuel (length bytes) due (drop at bytes)) ≡ meant → cut_at at due (take (length bytes - at) (drop at bytes)) ≡ Ok (record { field = field; size = size }) → 0 < size → at + size ≤ length bytes → more ≡ found ++ field ∷ [] → next ≡ data_behind field.tag field.bytes → (x : ℕ) × (length bytes - (at + size) < x) × (with_front more (split_from x (length bytes) next (drop (at + size) bytes)) ≡ meant)
+goes_on bytes at due found field size meant fuel more next inside is_more room e cut positive fits m n =
+    rw (m, n) (go_on bytes at due found field size meant fuel inside is_more room e cut positive fits)

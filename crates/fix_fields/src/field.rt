@@ -2,13 +2,22 @@
 ghost use Rattle.std.specs.Prelude.{◌≡◌};
 
 use std::alloc::{AllocError, AllocFailed};
-use venue_words::Bytes;
+use std::marker::Model;
 
-/// A field of a message: its tag, from 1 to 99,999, and the bytes of its value.
+/// A field of a message: its tag, from 1 to 99,999, and the bytes of its value, where they stand in the frame.
+/// Contracts see it as the tag and the list of the bytes.
 #[derive(Debug, Drop)]
-pub struct Field {
+pub struct Field<'a> {
     pub tag: u32,
-    pub bytes: Bytes,
+    pub bytes: &'a [u8],
+}
+
+impl<'a> Model for Field<'a> {
+    ghost use Rattle.fix_fields.specs.Field.{Field};
+
+    ghost Value = { Field };
+
+    ghost view = { λ f. record { tag = f.tag; bytes = f.bytes.now } };
 }
 
 /// Why bytes are no list of fields. The place `at` is that of the field's first byte, counted from 0.

@@ -60,7 +60,18 @@ fn scaled(parts: u64, places: u32) -> u128
     ensures value { result ≡ parts * 10 ^ places }
     ensures bound { result < 2 ^ 96 }
 {
-    parts as u128 * 10u128.pow(places)
+    let parts = parts as u128;
+    match places {
+        0 => parts,
+        1 => parts * 10,
+        2 => parts * 100,
+        3 => parts * 1_000,
+        4 => parts * 10_000,
+        5 => parts * 100_000,
+        6 => parts * 1_000_000,
+        7 => parts * 10_000_000,
+        _ => parts * 100_000_000,
+    }
 }
 
 /// An amount without its sign, in units of 10^-8.

@@ -48,9 +48,13 @@ told_side text = unwrap_or (price_of text) None
 unfoldable pub fields_of : List ℕ → List Field
 fields_of bytes = if nat_le (length bytes) MAX_FRAME_BYTES then result_unwrap_or (split bytes) [] else []
 
+-- the bytes that a text stands for, or none
+abbrev pub told_bytes : List ℕ → List ℕ
+told_bytes text = unwrap_or (text_of text) []
+
 -- the fields that a text stands for, or none
 abbrev pub told_fields : List ℕ → List Field
-told_fields text = fields_of (unwrap_or (text_of text) [])
+told_fields text = fields_of (told_bytes text)
 
 -- MARKET BID OFFER
 unfoldable pub told_quote : Config → List ℕ → Command

@@ -4,7 +4,7 @@ ghost use Rattle.order_fields.specs.Order.{command_of};
 ghost use Rattle.session_core.specs.Lookup.{text_in};
 ghost use Rattle.listing_reader.specs.Told.{told_quote, told_request, told_command};
 
-use crate::fields::{code_or_zero, terms_of, told_fields};
+use crate::fields::{code_or_zero, fields_of, terms_of, told_bytes};
 use crate::words::{place_in, split_word, told_side};
 use fix_fields::Field;
 use order_fields::tags::{CL_ORD_ID, ORIG_CL_ORD_ID, SIDE};
@@ -29,7 +29,7 @@ fn told_quote(text: &[u8], config: &Config) -> Command
 }
 
 /// A copy of the value of a tag.
-fn copy_of(alloc: Global, tag: u32, fields: &[Field]) -> Result<Bytes, NoMemory>
+fn copy_of(alloc: Global, tag: u32, fields: &[Field<'_>]) -> Result<Bytes, NoMemory>
     ensures { IfOk result (λ bytes. bytes ≡ text_in tag fields.now) }
 {
     Ok(Bytes::copy_of(alloc, text_in(tag, fields))?)
@@ -37,7 +37,12 @@ fn copy_of(alloc: Global, tag: u32, fields: &[Field]) -> Result<Bytes, NoMemory>
 
 /// What the fields of a message of this type ask for.
 #[tactic(auto, unfolding(order_fields::specs::Order::command_of))]
-fn command_of(alloc: Global, kind: u8, member: u32, fields: &[Field]) -> Result<Command, NoMemory>
+fn command_of(
+    alloc: Global,
+    kind: u8,
+    member: u32,
+    fields: &[Field<'_>],
+) -> Result<Command, NoMemory>
     ensures { IfOk result (λ command. command ≡ command_of kind member fields.now) }
 {
     let id = copy_of(alloc, CL_ORD_ID, fields)?;
@@ -74,7 +79,8 @@ fn told_request(alloc: Global, kind: u8, text: &[u8], config: &Config) -> Result
 {
     let (member, fields) = split_word(text);
     let member = place_in(config.members.as_slice(), member);
-    let fields = told_fields(alloc, fields)?;
+    let bytes = told_bytes(alloc, fields)?;
+    let fields = fields_of(alloc, bytes.as_slice())?;
     command_of(alloc, kind, member, fields.as_slice())
 }
 

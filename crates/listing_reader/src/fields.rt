@@ -1,7 +1,7 @@
 //! The fields of what a member asked.
 ghost use Rattle.std.specs.Prelude.{◌≡◌, IfOk};
 ghost use Rattle.order_fields.specs.Reading.{code_in, code_or_zero, amount_in, amount_or_zero, terms_of};
-ghost use Rattle.listing_reader.specs.Told.{fields_of, told_fields};
+ghost use Rattle.listing_reader.specs.Told.{fields_of, told_bytes};
 
 use fix_fields::{Field, FieldFault, amount, fields};
 use order_fields::tags::{
@@ -16,7 +16,7 @@ use venue_words::{NoMemory, Terms};
 
 /// The fields that bytes spell, or none.
 #[tactic(auto, unfolding(crate::specs::Told::fields_of))]
-fn fields_of(alloc: Global, bytes: &[u8]) -> Result<Vec<Field>, NoMemory>
+pub fn fields_of(alloc: Global, bytes: &[u8]) -> Result<Vec<Field<'_>>, NoMemory>
     ensures { IfOk result (λ found. found.items ≡ fields_of bytes.now) }
 {
     if bytes.len() > MAX_FRAME_BYTES {
@@ -29,19 +29,19 @@ fn fields_of(alloc: Global, bytes: &[u8]) -> Result<Vec<Field>, NoMemory>
     }
 }
 
-/// The fields that a text stands for, or none.
-pub fn told_fields(alloc: Global, text: &[u8]) -> Result<Vec<Field>, NoMemory>
-    ensures { IfOk result (λ found. found.items ≡ told_fields text.now) }
+/// The bytes that a text stands for, or none.
+pub fn told_bytes(alloc: Global, text: &[u8]) -> Result<Vec<u8>, NoMemory>
+    ensures { IfOk result (λ bytes. bytes.items ≡ told_bytes text.now) }
 {
     match unescape(alloc, text)? {
-        Some(bytes) => fields_of(alloc, bytes.as_slice()),
-        None => fields_of(alloc, &[]),
+        Some(bytes) => Ok(bytes),
+        None => Ok(Vec::new(alloc)),
     }
 }
 
 /// The code of a tag, which is one byte.
 #[tactic(auto, unfolding(order_fields::specs::Reading::code_in))]
-fn code_in(tag: u32, fields: &[Field]) -> Option<u8>
+fn code_in(tag: u32, fields: &[Field<'_>]) -> Option<u8>
     ensures { result ≡ code_in tag fields.now }
 {
     match value_of(tag, fields) {
@@ -51,7 +51,7 @@ fn code_in(tag: u32, fields: &[Field]) -> Option<u8>
 }
 
 /// The code of a tag, or 0.
-pub fn code_or_zero(tag: u32, fields: &[Field]) -> u8
+pub fn code_or_zero(tag: u32, fields: &[Field<'_>]) -> u8
     ensures { result ≡ code_or_zero tag fields.now }
 {
     code_in(tag, fields).unwrap_or(0)
@@ -59,7 +59,7 @@ pub fn code_or_zero(tag: u32, fields: &[Field]) -> u8
 
 /// The amount of a tag.
 #[tactic(auto, unfolding(order_fields::specs::Reading::amount_in))]
-fn amount_in(tag: u32, fields: &[Field]) -> Option<i128>
+fn amount_in(tag: u32, fields: &[Field<'_>]) -> Option<i128>
     ensures { result ≡ amount_in tag fields.now }
 {
     match value_of(tag, fields) {
@@ -69,7 +69,7 @@ fn amount_in(tag: u32, fields: &[Field]) -> Option<i128>
 }
 
 /// The amount of a tag, or 0.
-fn amount_or_zero(tag: u32, fields: &[Field]) -> i128
+fn amount_or_zero(tag: u32, fields: &[Field<'_>]) -> i128
     ensures { result ≡ amount_or_zero tag fields.now }
 {
     match amount_in(tag, fields) {
@@ -80,7 +80,7 @@ fn amount_or_zero(tag: u32, fields: &[Field]) -> i128
 
 /// The terms of an order.
 #[tactic(auto, unfolding(order_fields::specs::Reading::terms_of))]
-pub fn terms_of(fields: &[Field]) -> Terms
+pub fn terms_of(fields: &[Field<'_>]) -> Terms
     ensures { result ≡ terms_of fields.now }
 {
     Terms {

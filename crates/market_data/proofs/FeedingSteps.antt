@@ -4,6 +4,7 @@ use Rattle.std.specs.Option.{option_to_list}
 use Rattle.std.specs.Prelude.{IsSome, IfOk}
 use Rattle.venue_words.specs.declared.config.Config.{Config}
 use Rattle.fix_frames.specs.Reading.{none_yet, reading_of}
+use Rattle.fix_frames.specs.Streams.{Stream, HasGiven, HasWaited, HasExceeded}
 use Rattle.member_gate.specs.declared.business.TheConstants.{BUSINESS_REJECT}
 use Rattle.session_core.specs.declared.message.Request.{Request}
 use Rattle.session_core.specs.declared.state.EndCause.{EndCause}
@@ -15,11 +16,12 @@ use Rattle.session_core.specs.Alike.{AreAlike}
 use Rattle.session_core.specs.AlikeLaws.{alike-self, sends-alike, rejects-alike}
 use Rattle.session_core.specs.Machine.{Machine, Outcome, IsOver, fresh, on_frame, on_overlong}
 use Rattle.session_core.specs.State.{cause_of, is_over}
+use Rattle.session_stream.specs.AnsweringLaws.{takes_frame, waits, exceeds}
 use Rattle.session_stream.specs.Hearing.{IsUnderway, TakesFrame, Exceeds, Waits}
 use Rattle.session_stream.specs.Laws.{OnlySends, HandOutAlike}
 use Rattle.session_stream.specs.Work.{Work, then_work, work_of_reading}
 use Rattle.session_stream.specs.WorkLaws.{work_of_turn, underway_fed, underway_more, underway_none, underway_reads, underway_waits, underway_whole, underway_settled, underway_over, underway_over_more, underway_long, underway_long_more, frame_cause, overlong_cause, reading_work-alike}
-use Rattle.market_data.specs.Feeding.{Feeding, unfed, no_answer, HasTaken, StandsFor, Adds}
+use Rattle.market_data.specs.Feeding.{Feeding, feeding_of, unfed, no_answer, HasTaken, IsFed, StandsFor, Adds}
 use Rattle.market_data.specs.Lines.{TimedQuote, handed_quotes, all_quotes, lines_from, last_moment, feed_lines}
 use Rattle.market_data.specs.Market.{Market, answer_snapshot, market_answer, market_by, market_of}
 use Rattle.market_data.specs.Snapshots.{Meant}
@@ -123,21 +125,29 @@ module _ (config : Config) (source : List ℕ) where
     pub text_is : text ≡ old_text ++ added
     pub lines : lines_by taken.work.requests ≡ (market_of config source bytes).lines ++ added
 
-  pub going_fed : (bytes piece text : List ℕ) (feeding next : Feeding) → StandsFor config source bytes feeding
-      → next.session ≡ feeding.session → next.unread ≡ feeding.unread ++ piece → next.last ≡ feeding.last
-      → Going bytes piece text text next
-  going_fed bytes piece text feeding next s session unread last = record {
+  pub stands_fed : (bytes piece : List ℕ) (before next : Feeding) → StandsFor config source bytes before
+      → next.session ≡ before.session → next.unread ≡ before.unread ++ piece → next.last ≡ before.last
+      → IsFed config source bytes piece next
+  stands_fed bytes piece before next s session unread last = record {
     taken = record {
       work = s.taken.work;
       underway =
           subst (λ (u : List ℕ). IsUnderway no_answer config.begin (fresh source) (bytes ++ piece) s.taken.work u) (sym unread)
-          (underway_fed no_answer config.begin (fresh source) bytes piece s.taken.work feeding.unread s.taken.underway);
+          (underway_fed no_answer config.begin (fresh source) bytes piece s.taken.work before.unread s.taken.underway);
       session = session ∙ s.taken.session;
       last = last ∙ s.taken.last;
     };
+    lines = sym (lines_at bytes s.taken.work (settled bytes before s));
+    unended = ap (λ (m : Machine). cause_of m.state.phase) session ∙ s.unended;
+  }
+
+  pub going_none : (bytes piece text : List ℕ) (feeding : Feeding) → IsFed config source bytes piece feeding
+      → Going bytes piece text text feeding
+  going_none bytes piece text feeding fed = record {
+    taken = fed.taken;
     added = [];
     text_is = sym (append-nil text);
-    lines = sym (lines_at bytes s.taken.work (settled bytes feeding s)) ∙ sym (append-nil _);
+    lines = fed.lines ∙ sym (append-nil _);
   }
 
   -- the turn of a frame, with no answer
@@ -254,10 +264,43 @@ module _ (config : Config) (source : List ℕ) where
         over = λ other e more. absurd (cc);
       }
 
-  -- what a frame's turn says of the end is what the session says
-  pub turn_cause : (old new : Machine) (bytes unread : List ℕ) (turn : Turn) → TakesFrame config.begin old bytes turn new unread → turn.ended ≡ cause_of new.state.phase
-  turn_cause old new bytes unread turn t =
-      ap (λ (x : Turn). x.ended) t.turn_is ∙ frame_cause config.begin old t.frame ∙ ap (λ (m : Machine). cause_of m.state.phase) (sym t.machine)
+  -- ---- by what the framer answers
+
+  -- a frame was given, and worked
+  pub going_frame : (bytes piece old_text text more : List ℕ) (old new : Machine) (stream rest : Stream) (last later : Option ℤ) (frame : List ℕ)
+      → Going bytes piece old_text text (feeding_of old stream.kept last) → HasGiven stream rest frame
+      → new ≡ (on_frame old frame config.begin).machine
+      → more ≡ text ++ lines_from config last (handed_quotes config (on_frame old frame config.begin).turn.request)
+      → later ≡ last_moment last (handed_quotes config (on_frame old frame config.begin).turn.request)
+      → Going bytes piece old_text more (feeding_of new rest.kept later)
+  going_frame bytes piece old_text text more old new stream rest last later frame g given machine text_more last_is =
+      let turn = (on_frame old frame config.begin).turn in
+      going_more bytes piece old_text text more (feeding_of old stream.kept last) (feeding_of new rest.kept later) turn g
+      (takes_frame config.begin config.begin old new stream rest frame turn refl given machine refl) text_more last_is
+
+  -- what its turn says of the end is what the session says
+  pub frame_end : (old new : Machine) (frame : List ℕ) (ended : Option EndCause) → new ≡ (on_frame old frame config.begin).machine
+      → ended ≡ (on_frame old frame config.begin).turn.ended → cause_of new.state.phase ≡ ended
+  frame_end old new frame ended machine e =
+      ap (λ (m : Machine). cause_of m.state.phase) machine ∙ sym (frame_cause config.begin old frame) ∙ sym e
+
+  -- there is no further frame yet
+  pub adds_waited : (bytes piece old_text text : List ℕ) (session : Machine) (stream rest : Stream) (last : Option ℤ)
+      (g : Going bytes piece old_text text (feeding_of session stream.kept last)) → cause_of session.state.phase ≡ None
+      → HasWaited stream rest → Adds config source bytes piece g.added None (feeding_of session rest.kept last)
+  adds_waited bytes piece old_text text session stream rest last g unended waited =
+      adds_whole bytes piece old_text text (feeding_of session stream.kept last) (feeding_of session rest.kept last) g unended
+      (waits session stream rest waited) refl
+
+  -- the next frame is too long
+  pub adds_exceeded : (bytes piece old_text text : List ℕ) (old new : Machine) (stream rest : Stream) (last : Option ℤ) (ended : Option EndCause)
+      (g : Going bytes piece old_text text (feeding_of old stream.kept last)) → HasExceeded stream rest
+      → new ≡ (on_overlong old config.begin).machine → IsSome ended → (on_overlong old config.begin).turn.ended ≡ ended
+      → Adds config source bytes piece g.added ended (feeding_of new rest.kept last)
+  adds_exceeded bytes piece old_text text old new stream rest last ended g exceeded machine some e =
+      let turn = (on_overlong old config.begin).turn in
+      adds_long_any bytes piece old_text text (feeding_of old stream.kept last) (feeding_of new rest.kept last) new turn ended g
+      (exceeds config.begin config.begin old new stream rest turn refl exceeded machine refl) some e
 
 pub map_if_ok : {T E : Type 0} {P Q : T → Type 0} (r : Result T E) → ((x : T) → P x → Q x) → IfOk r P → IfOk r Q
 map_if_ok (Ok x) f h = f x h

@@ -8,7 +8,7 @@ use Rattle.session_core.specs.Machine.{Machine, Outcome, fresh, rests}
 use Rattle.session_core.specs.State.{cause_of}
 use Rattle.session_stream.specs.Hearing.{IsUnderway}
 use Rattle.session_stream.specs.Work.{Work}
-use Rattle.market_data.specs.Lines.{TimedQuote, all_quotes, last_moment}
+use Rattle.market_data.specs.Lines.{TimedQuote, all_quotes, last_moment, feed_lines}
 use Rattle.market_data.specs.Market.{market_of}
 
 -- a feed that is written: the session, the bytes that are unread, and the moment that stands last
@@ -16,6 +16,9 @@ pub record Feeding : Type 0 where
   pub session : Machine
   pub unread : List ℕ
   pub last : Option ℤ
+
+abbrev pub feeding_of : Machine → List ℕ → Option ℤ → Feeding
+feeding_of session unread last = record { session = session; unread = unread; last = last }
 
 -- before the first byte of a source
 abbrev pub unfed : List ℕ → Feeding
@@ -36,6 +39,12 @@ pub record HasTaken (config : Config) (source bytes : List ℕ) (feeding : Feedi
 pub record StandsFor (config : Config) (source bytes : List ℕ) (feeding : Feeding) : Type 0 where
   pub taken : HasTaken config source bytes feeding
   pub none : reading_of feeding.unread ≡ none_yet
+  pub unended : cause_of feeding.session.state.phase ≡ None
+
+-- a piece came behind these bytes, of which no frame was taken yet
+pub record IsFed (config : Config) (source bytes piece : List ℕ) (feeding : Feeding) : Type 0 where
+  pub taken : HasTaken config source (bytes ++ piece) feeding
+  pub lines : feed_lines config (all_quotes config taken.work.requests) ≡ (market_of config source bytes).lines
   pub unended : cause_of feeding.session.state.phase ≡ None
 
 -- a piece behind these bytes: the lines that it adds, and why the session ended in it, where it did; then nothing that follows

@@ -1,8 +1,9 @@
 //! The entries of a snapshot.
-ghost use Rattle.std.specs.Prelude.{◌≡◌, ◌<◌, ◌≤◌, ◌&&◌, length, position, Some, None, is_none, [], ◌∷◌, IfSome, IfOk, OnOk, IfErr};
+ghost use Rattle.std.specs.Prelude.{◌≡◌, ℕ, List, ◌<◌, ◌≤◌, ◌&&◌, length, position, Some, None, is_none, [], ◌∷◌, IfSome, IfOk, OnOk, IfErr};
 ghost use Rattle.venue_words.specs.declared.limits.TheConstants.{MAX_MARKETS};
+ghost use Rattle.fix_fields.specs.declared.field.Field.{Field};
 ghost use Rattle.quote_intake.specs.Quote.{number_in};
-ghost use Rattle.market_data.specs.Entries.{begins_entry, entry_of, entry_type, has_price, whole_cents, cents_of_amount, price_in, market_in, entry_quote, used_quote};
+ghost use Rattle.market_data.specs.Entries.{begins_entry, entry_of, entry_type, has_price, whole_cents, cents_of_amount, price_in, market_in, market_or_first, entry_quote, used_quote};
 ghost use Rattle.market_data.specs.Faults.{fails_if, first_some, entry_faults, entry_fault};
 
 use crate::tags::{MD_ENTRY_PX, MD_ENTRY_TYPE, MD_MKT};
@@ -33,14 +34,14 @@ pub struct EntryQuote {
 }
 
 /// Whether an entry begins with this field.
-pub fn begins_entry(field: &Field) -> bool
+pub fn begins_entry(field: &Field<'_>) -> bool
     ensures { result ≡ begins_entry field.now }
 {
     field.tag == MD_ENTRY_TYPE
 }
 
 /// The place of the next field that begins an entry.
-fn next_entry(fields: &[Field]) -> Option<usize>
+fn next_entry(fields: &[Field<'_>]) -> Option<usize>
     ensures place { result ≡ position begins_entry fields.now }
     ensures within { IfSome result (λ at. at < length fields.now) }
 {
@@ -48,7 +49,7 @@ fn next_entry(fields: &[Field]) -> Option<usize>
 }
 
 /// The entry that begins with the first of these fields: it goes up to the next one that begins an entry, or to the end.
-pub fn entry_of(fields: &[Field]) -> &[Field]
+pub fn entry_of<'f, 'a>(fields: &'f [Field<'a>]) -> &'f [Field<'a>]
     requires { 0 < length fields.now }
     ensures { result.now ≡ entry_of fields.now }
 {
@@ -60,7 +61,7 @@ pub fn entry_of(fields: &[Field]) -> &[Field]
 
 /// What an entry tells, where it is used.
 #[tactic(auto, unfolding(crate::specs::Entries::entry_type))]
-fn entry_type(entry: &[Field]) -> Option<EntryType>
+fn entry_type(entry: &[Field<'_>]) -> Option<EntryType>
     ensures { result ≡ entry_type entry.now }
 {
     if is_value(MD_ENTRY_TYPE, b"0", entry) {
@@ -112,7 +113,7 @@ fn cents_of_amount(units: i128) -> Option<u32>
 
 /// The price of an entry in cents.
 #[tactic(auto, unfolding(crate::specs::Entries::price_in))]
-fn price_in(entry: &[Field]) -> Option<u32>
+fn price_in(entry: &[Field<'_>]) -> Option<u32>
     ensures { result ≡ price_in entry.now }
 {
     match value_of(MD_ENTRY_PX, entry) {
@@ -146,7 +147,7 @@ pub fn number_in(names: &[Bytes], name: &[u8]) -> Option<u32>
 
 /// The market of an entry, where that is configured.
 #[tactic(auto, unfolding(crate::specs::Entries::market_in))]
-fn market_in(markets: &[Bytes], entry: &[Field]) -> Option<u32>
+fn market_in(markets: &[Bytes], entry: &[Field<'_>]) -> Option<u32>
     requires { length markets.now ≤ MAX_MARKETS }
     ensures { result ≡ market_in markets.now entry.now }
 {
@@ -156,9 +157,16 @@ fn market_in(markets: &[Bytes], entry: &[Field]) -> Option<u32>
     }
 }
 
-/// The first check that an entry of a type fails.
-fn entry_fault(markets: &[Bytes], entry: &[Field], of: EntryType) -> Option<FailedCheck>
-    requires { length markets.now ≤ MAX_MARKETS }
+/// The first check that an entry of a type fails, where this is its price and this its market.
+fn entry_fault(
+    markets: &[Bytes],
+    entry: &[Field<'_>],
+    of: EntryType,
+    price: Option<u32>,
+    market: Option<u32>,
+) -> Option<FailedCheck>
+    requires price { price ≡ price_in entry.now }
+    requires market { market ≡ market_in markets.now entry.now }
     ensures { result ≡ first_some (entry_faults markets.now entry.now of) }
 {
     let failed = |reason, tag| Some(FailedCheck { reason, tag });
@@ -166,46 +174,34 @@ fn entry_fault(markets: &[Bytes], entry: &[Field], of: EntryType) -> Option<Fail
         if value_of(MD_ENTRY_PX, entry).is_none() {
             return failed(TAG_MISSING, MD_ENTRY_PX);
         }
-        if price_in(entry).is_none() {
+        if price.is_none() {
             return failed(VALUE_OUT_OF_RANGE, MD_ENTRY_PX);
         }
     }
     if value_of(MD_MKT, entry).is_none() {
         return failed(TAG_MISSING, MD_MKT);
     }
-    if market_in(markets, entry).is_none() {
+    if market.is_none() {
         return failed(VALUE_OUT_OF_RANGE, MD_MKT);
     }
     None
 }
 
-/// What an entry of a type says of its market.
-fn entry_quote(markets: &[Bytes], entry: &[Field], of: EntryType) -> EntryQuote
-    requires { length markets.now ≤ MAX_MARKETS }
-    ensures { result ≡ entry_quote markets.now entry.now of }
+/// What an entry of a type says of its market, where this is its price.
+fn entry_quote(of: EntryType, price: Option<u32>, market: u32) -> EntryQuote
+    ensures { (markets : List (List ℕ)) (entry : List Field) → price ≡ price_in entry
+        → market ≡ market_or_first markets entry → result ≡ entry_quote markets entry of }
 {
-    let market = market_in(markets, entry).unwrap_or(0);
-    match of {
-        EntryType::Bid => EntryQuote {
-            market,
-            bid: price_in(entry),
-            offer: None,
-        },
-        EntryType::Offer => EntryQuote {
-            market,
-            bid: None,
-            offer: price_in(entry),
-        },
-        EntryType::EmptyBook => EntryQuote {
-            market,
-            bid: None,
-            offer: None,
-        },
-    }
+    let (bid, offer) = match of {
+        EntryType::Bid => (price, None),
+        EntryType::Offer => (None, price),
+        EntryType::EmptyBook => (None, None),
+    };
+    EntryQuote { market, bid, offer }
 }
 
 /// What an entry says of its market, or nothing where it is ignored; or the first check that it fails.
-pub fn read_entry(markets: &[Bytes], entry: &[Field]) -> Result<Option<EntryQuote>, FailedCheck>
+pub fn read_entry(markets: &[Bytes], entry: &[Field<'_>]) -> Result<Option<EntryQuote>, FailedCheck>
     requires { length markets.now ≤ MAX_MARKETS }
     ensures failed { IfErr result (λ failed. entry_fault markets.now entry.now ≡ Some failed) }
     ensures passed { OnOk result (entry_fault markets.now entry.now ≡ None) }
@@ -214,8 +210,10 @@ pub fn read_entry(markets: &[Bytes], entry: &[Field]) -> Result<Option<EntryQuot
     let Some(of) = entry_type(entry) else {
         return Ok(None);
     };
-    match entry_fault(markets, entry, of) {
+    let price = price_in(entry);
+    let market = market_in(markets, entry);
+    match entry_fault(markets, entry, of, price, market) {
         Some(failed) => Err(failed),
-        None => Ok(Some(entry_quote(markets, entry, of))),
+        None => Ok(Some(entry_quote(of, price, market.unwrap_or(0)))),
     }
 }

@@ -1,25 +1,26 @@
 //! A market data session that is fed piece by piece, and the lines that its messages make.
-ghost use Rattle.std.specs.Prelude.{◌≡◌, ◌++◌, ℕ, List, IfOk, OnOk, IsSome};
+ghost use Rattle.std.specs.Prelude.{◌≡◌, ◌≤◌, ◌++◌, ℕ, List, length, IfOk, OnOk, IsSome};
 ghost use Rattle.venue_words.specs.Conditions.{IsConfig};
 ghost use Rattle.market_data.specs.Lines.{handed_quotes, last_moment, lines_from, quotes_in, sending_time};
-ghost use Rattle.market_data.specs.Feeding.{StandsFor, Adds};
+ghost use Rattle.session_core.specs.Machine.{on_frame, on_overlong};
+ghost use Rattle.market_data.specs.Feeding.{feeding_of, IsFed, StandsFor, Adds};
 
 use crate::lines::push_snapshot;
 use crate::message_types::MARKET_DATA_SNAPSHOT;
 use crate::snapshots::{SnapshotRefusal, read_snapshot};
 use fix_fields::moment;
-use fix_frames::Framer;
+use fix_frames::{Framer, Next};
 use session_core::lookup::value_of;
 use session_core::tags::SENDING_TIME;
 use session_core::{EndCause, Request, Session, Turn};
-use session_stream::{Heard, hear};
 use std::alloc::Global;
 use std::marker::Model;
+use venue_words::limits::MAX_FRAME_BYTES;
 use venue_words::{Bytes, Config, NoMemory};
 
 /// The moment of a message: its SendingTime(52), in milliseconds since 1970-01-01 00:00 UTC.
 #[tactic(auto, unfolding(crate::specs::Lines::sending_time))]
-fn sending_time(request: &Request) -> Option<i64>
+fn sending_time(request: &Request<'_>) -> Option<i64>
     ensures { result ≡ sending_time request.now }
 {
     match value_of(SENDING_TIME, request.fields.as_slice()) {
@@ -36,7 +37,7 @@ fn push_message(
     text: &mut Vec<u8>,
     last: &mut Option<i64>,
     config: &Config,
-    request: &Request,
+    request: &Request<'_>,
 ) -> Result<(), NoMemory>
     requires { IsConfig config.now }
     ensures lines { OnOk result (text.new.items
@@ -62,12 +63,12 @@ fn push_handed(
     text: &mut Vec<u8>,
     last: &mut Option<i64>,
     config: &Config,
-    handed: Option<Request>,
+    handed: Option<Request<'_>>,
 ) -> Result<(), NoMemory>
     requires { IsConfig config.now }
     ensures lines { OnOk result (text.new.items
-        ≡ text.old.items ++ lines_from config.now last.old (handed_quotes config.now handed)) }
-    ensures last { OnOk result (last.new ≡ last_moment last.old (handed_quotes config.now handed)) }
+        ≡ text.old.items ++ lines_from config.now last.old (handed_quotes config.now handed.entry)) }
+    ensures last { OnOk result (last.new ≡ last_moment last.old (handed_quotes config.now handed.entry)) }
 {
     match handed {
         Some(request) => push_message(alloc, text, last, config, &request),
@@ -75,13 +76,67 @@ fn push_handed(
     }
 }
 
-/// Why a session ended that is over. Without a cause it ended for want of memory.
-fn end_of(turn: Turn) -> Result<Option<EndCause>, NoMemory>
-    ensures { IfOk result (λ ended. IsSome ended × (turn.ended ≡ ended)) }
+/// Works a frame: the lines of the message that it hands out, if any, are appended, and the cause comes back where the session
+/// has ended. After a refusal the text may hold a part of them.
+fn work_frame(
+    alloc: Global,
+    session: &mut Session,
+    frame: &[u8],
+    last: &mut Option<i64>,
+    config: &Config,
+    text: &mut Vec<u8>,
+) -> Result<Option<EndCause>, NoMemory>
+    requires config { IsConfig config.now }
+    requires short { length frame.now ≤ MAX_FRAME_BYTES }
+    ensures session { OnOk result (session.new ≡ (on_frame session.old frame.now config.now.begin).machine) }
+    ensures lines { OnOk result (text.new.items ≡ text.old.items ++ lines_from config.now last.old
+        (handed_quotes config.now (on_frame session.old frame.now config.now.begin).turn.request)) }
+    ensures last { OnOk result (last.new ≡ last_moment last.old
+        (handed_quotes config.now (on_frame session.old frame.now config.now.begin).turn.request)) }
+    ensures ended { IfOk result (λ ended. ended ≡ (on_frame session.old frame.now config.now.begin).turn.ended) }
 {
+    let Turn { request, ended, .. } = session.take(frame, config.begin)?;
+    push_handed(alloc, text, last, config, request)?;
+    Ok(ended)
+}
+
+/// The session ends, since its next frame is too long: why it has ended. Without a cause it ended for want of memory.
+fn end_too_long(session: &mut Session, config: &Config) -> Result<Option<EndCause>, NoMemory>
+    ensures { IfOk result (λ ended. (session.new ≡ (on_overlong session.old config.now.begin).machine)
+        × IsSome ended × ((on_overlong session.old config.now.begin).turn.ended ≡ ended)) }
+{
+    let turn = session.too_long(config.begin)?;
     match turn.ended {
         Some(cause) => Ok(Some(cause)),
         None => Err(NoMemory),
+    }
+}
+
+/// Works all frames that a stream has now, and appends their lines. The cause comes back where the session ends in them. After
+/// a refusal the text may hold a part of the lines.
+fn work_frames(
+    alloc: Global,
+    framer: &mut Framer,
+    session: &mut Session,
+    last: &mut Option<i64>,
+    config: &Config,
+    text: &mut Vec<u8>,
+) -> Result<Option<EndCause>, NoMemory>
+    requires { IsConfig config.now }
+    ensures adds { IfOk result (λ ended. (source bytes piece : List ℕ)
+        → IsFed config.now source bytes piece (feeding_of session.old framer.old.kept last.old)
+        → (added : List ℕ) × (text.new.items ≡ text.old.items ++ added)
+        × Adds config.now source bytes piece added ended (feeding_of session.new framer.new.kept last.new)) }
+{
+    'frames: loop {
+        match framer.next() {
+            Next::Frame(frame) => match work_frame(alloc, session, frame, last, config, text)? {
+                Some(cause) => return Ok(Some(cause)),
+                None => {}
+            },
+            Next::Wait => return Ok(None),
+            Next::TooLong => return end_too_long(session, config),
+        }
     }
 }
 
@@ -134,18 +189,13 @@ impl MarketSession {
             × Adds config.now source bytes piece.now added ended self.new) }
     {
         self.framer.feed(piece)?;
-        'frames: loop {
-            let turn = match hear(&mut self.framer, &mut self.session, config.begin)? {
-                Heard::Frame(turn) => turn,
-                Heard::TooLong(turn) => return end_of(turn),
-                Heard::Wait => return Ok(None),
-            };
-            let Turn { request, ended, .. } = turn;
-            push_handed(self.alloc, text, &mut self.last, config, request)?;
-            match ended {
-                Some(cause) => return Ok(Some(cause)),
-                None => {}
-            }
-        }
+        work_frames(
+            self.alloc,
+            &mut self.framer,
+            &mut self.session,
+            &mut self.last,
+            config,
+            text,
+        )
     }
 }

@@ -67,7 +67,7 @@ impl From<FailedCheck> for SnapshotRefusal {
 }
 
 /// How often a tag stands among the fields.
-fn count_of(tag: u32, fields: &[Field]) -> usize
+fn count_of(tag: u32, fields: &[Field<'_>]) -> usize
     ensures { result ≡ count_of tag fields.now }
 {
     fields.iter().filter(|field| field.tag == tag).count()
@@ -75,7 +75,7 @@ fn count_of(tag: u32, fields: &[Field]) -> usize
 
 /// The number of the symbol, where that is configured.
 #[tactic(auto, unfolding(crate::specs::Faults::symbol_in))]
-fn symbol_in(symbols: &[Bytes], fields: &[Field]) -> Option<u32>
+fn symbol_in(symbols: &[Bytes], fields: &[Field<'_>]) -> Option<u32>
     requires { length symbols.now ≤ MAX_SYMBOLS }
     ensures { result ≡ symbol_in symbols.now fields.now }
 {
@@ -86,7 +86,7 @@ fn symbol_in(symbols: &[Bytes], fields: &[Field]) -> Option<u32>
 }
 
 /// Reads what stands beside the entries, and gives the number of the symbol.
-fn read_head(symbols: &[Bytes], fields: &[Field]) -> Result<u32, FailedCheck>
+fn read_head(symbols: &[Bytes], fields: &[Field<'_>]) -> Result<u32, FailedCheck>
     requires { length symbols.now ≤ MAX_SYMBOLS }
     ensures failed { IfErr result (λ failed. first_some (head_faults symbols.now fields.now) ≡ Some failed) }
     ensures passed { OnOk result (first_some (head_faults symbols.now fields.now) ≡ None) }
@@ -121,7 +121,7 @@ fn read_head(symbols: &[Bytes], fields: &[Field]) -> Result<u32, FailedCheck>
 #[tactic(auto, unfolding(crate::specs::Entries::entries_of))]
 fn read_first(
     markets: &[Bytes],
-    fields: &[Field],
+    fields: &[Field<'_>],
     quotes: &mut Vec<EntryQuote>,
 ) -> Result<(), SnapshotRefusal>
     requires markets { length markets.now ≤ MAX_MARKETS }
@@ -142,7 +142,7 @@ fn read_first(
 fn read_entries(
     alloc: Global,
     markets: &[Bytes],
-    fields: &[Field],
+    fields: &[Field<'_>],
 ) -> Result<Vec<EntryQuote>, SnapshotRefusal>
     requires { length markets.now ≤ MAX_MARKETS }
     ensures refused { IfErr result (FailsFirst (entries_fault markets.now (entries_of fields.now))) }
@@ -162,7 +162,7 @@ fn read_entries(
 #[tactic(auto, unfolding(crate::specs::Snapshots::snapshot_of))]
 pub fn read_snapshot(
     alloc: Global,
-    request: &Request,
+    request: &Request<'_>,
     config: &Config,
 ) -> Result<Snapshot, SnapshotRefusal>
     requires { IsConfig config.now }

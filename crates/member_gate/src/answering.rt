@@ -27,7 +27,7 @@ use venue_words::{Bytes, Floor, NoMemory, Report, Steps};
 fn answer_business(
     alloc: Global,
     session: &mut Session,
-    request: &Request,
+    request: &Request<'_>,
     moment: i64,
 ) -> Result<Bytes, NoMemory>
     requires { IsUp session.old }
@@ -47,7 +47,7 @@ fn answer_stray(
     alloc: Global,
     session: &mut Session,
     origin: Origin<'_>,
-    request: &Request,
+    request: &Request<'_>,
     report: &Report,
 ) -> Result<Bytes, NoMemory>
     requires { IsUp session.old }
@@ -73,7 +73,7 @@ pub fn answer<F: Floor, L: Ledger>(
     session: &mut Session,
     floor: &mut F,
     origin: Origin<'_>,
-    request: &Request,
+    request: &Request<'_>,
     steps: &mut Steps<L>,
 ) -> Result<Option<Bytes>, DeskRefusal>
     requires up { IsUp session.old }

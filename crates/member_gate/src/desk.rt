@@ -145,7 +145,7 @@ impl Desk {
         moment: i64,
         piece: &[u8],
         steps: &mut Steps<L>,
-    ) -> Result<Turn, DeskRefusal>
+    ) -> Result<Turn<'static>, DeskRefusal>
         requires config { IsConfig config.now }
         requires setup { IsSetUpFor config.now (F.mark floor.old).setup }
         requires member { self.old.member < length config.now.members }
@@ -347,7 +347,7 @@ impl Desk {
 
     /// The clock says this moment, in milliseconds since 1970-01-01 00:00 UTC: the session sends at most one message, or
     /// ends the connection where its member is silent. Where memory is wanted the connection ends without a cause.
-    pub fn tick(&mut self, moment: i64) -> Result<Turn, NoMemory>
+    pub fn tick(&mut self, moment: i64) -> Result<Turn<'static>, NoMemory>
         ensures session { OnOk result (self.new
             ≡ record self.old { session = (on_clock self.old.session moment).machine }) }
         ensures turn { IfOk result (λ turn. turn

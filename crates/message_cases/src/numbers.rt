@@ -15,7 +15,7 @@ fn tell_fields(bytes: &[u8], told: &mut Told) {
                 told.push(" ");
                 told.show(&field.tag);
                 told.push("=");
-                told.bytes(field.bytes.as_slice());
+                told.bytes(field.bytes);
             }
         }
         Err(fault) => told.code(&fault),

@@ -2,6 +2,7 @@
 use crate::sessions::Desk;
 use case_text::{Told, Words};
 use exec_reports::{body, kind};
+use fix_write::wrap;
 use order_fields::{Decoded, Known, Refusal, read_order, verdict};
 use std::alloc::{AllocError, Global};
 use venue_words::{Bytes, Command, Config, Items, NoMemory, Report, Side};
@@ -21,7 +22,8 @@ fn config_of(alloc: Global) -> Result<Config, AllocError> {
 /// What a message of member A behind its Logon is read as, at the moment 7.
 fn read(alloc: Global, content: &[u8]) -> Result<Result<Decoded, Refusal>, NoMemory> {
     let config = config_of(alloc)?;
-    let turn = Desk::logged_on(alloc)?.take(alloc, content)?;
+    let frame = wrap(alloc, content)?;
+    let turn = Desk::logged_on(alloc)?.take(frame.as_slice())?;
     match &turn.request {
         Some(request) if config.symbols.len() == 1 => {
             Ok(read_order(alloc, request, 0, &config, 7))

@@ -4,7 +4,6 @@ use fix_fields::moment;
 use fix_frames::{Framer, Next};
 use fix_write::wrap;
 use session_core::{Input, Kept, Message, Request, Session, Turn};
-use session_stream::{Heard, hear};
 use std::alloc::Global;
 use std::mem::size_of;
 use venue_words::limits::MAX_FRAME_BYTES;
@@ -37,17 +36,17 @@ impl Desk {
     /// A session that took its Logon.
     pub fn logged_on(alloc: Global) -> Result<Desk, NoMemory> {
         let mut desk = Desk::new(alloc)?;
-        let _ = desk.take(alloc, LOGON)?;
+        let frame = wrap(alloc, LOGON)?;
+        let _ = desk.take(frame.as_slice())?;
         Ok(desk)
     }
 
-    /// What the frame of a content gives.
-    pub fn take(&mut self, alloc: Global, content: &[u8]) -> Result<Turn, NoMemory> {
-        let frame = wrap(alloc, content)?;
+    /// What a frame gives.
+    pub fn take<'a>(&mut self, frame: &'a [u8]) -> Result<Turn<'a>, NoMemory> {
         if frame.len() > MAX_FRAME_BYTES {
             return Err(NoMemory);
         }
-        self.session.take(frame.as_slice(), START)
+        self.session.take(frame, START)
     }
 
     fn send(&mut self, input: &[u8], told: &mut Told) -> Result<(), NoMemory> {
@@ -93,13 +92,15 @@ impl Desk {
     fn hear(&mut self, piece: &[u8], told: &mut Told) -> Result<(), NoMemory> {
         self.framer.feed(piece)?;
         for _ in 0..100 {
-            match hear(&mut self.framer, &mut self.session, START)? {
-                Heard::Frame(turn) => tell_turn(&turn, told),
-                Heard::Wait => break,
-                Heard::TooLong(turn) => {
-                    tell_turn(&turn, told);
+            match self.framer.next() {
+                Next::Frame(frame) if frame.len() <= MAX_FRAME_BYTES => {
+                    tell_turn(&self.session.take(frame, START)?, told);
+                }
+                Next::TooLong => {
+                    tell_turn(&self.session.too_long(START)?, told);
                     break;
                 }
+                _ => break,
             }
         }
         Ok(())
@@ -136,20 +137,17 @@ impl Desk {
 }
 
 /// Tells a message that is handed out.
-fn tell_request(request: &Request, told: &mut Told) {
+fn tell_request(request: &Request<'_>, told: &mut Told) {
     told.push("\n  message ");
     told.show(&request.number);
     told.push(" of ");
     told.show(&request.fields.len());
     told.push(" fields and type ");
     told.bytes(&[request.kind]);
-    if request.failed.is_some() {
-        told.push(", which fails a check");
-    }
 }
 
 /// Tells the replies of a turn, what it hands out, and why the connection ended.
-fn tell_turn(turn: &Turn, told: &mut Told) {
+fn tell_turn(turn: &Turn<'_>, told: &mut Told) {
     told.lines(turn.replies.as_slice());
     if let Some(request) = &turn.request {
         tell_request(request, told);
@@ -166,7 +164,10 @@ pub fn play(desk: &mut Desk, word: &str, input: &[u8], told: &mut Told) -> Resul
     match word {
         "session" => *desk = Desk::new(alloc)?,
         "logged_on" => *desk = Desk::logged_on(alloc)?,
-        "take" => tell_turn(&desk.take(alloc, input)?, told),
+        "take" => {
+            let frame = wrap(alloc, input)?;
+            tell_turn(&desk.take(frame.as_slice())?, told);
+        }
         "send" => desk.send(input, told)?,
         "open" => desk.session.open(),
         "tick" => tell_turn(&desk.session.tick(moment(input).unwrap_or(0))?, told),

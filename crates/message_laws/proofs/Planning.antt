@@ -16,7 +16,6 @@ use Rattle.session_core.specs.Machine.{Machine, incoming, plan_for}
 use Rattle.venue_words.specs.Limits.{venue}
 use Rattle.fix_write.specs.declared.tags.TheConstants.{SENDER_COMP_ID, TARGET_COMP_ID}
 use Rattle.session_core.specs.Logon.{next_of_logon, takes_logon, on_logon, before_logon}
-use Rattle.session_core.specs.Tables.{failed_of}
 use Rattle.session_core.specs.declared.state.EndCause.TheVariants.{NotLogon}
 use Rattle.session_core.specs.State.{is_up, is_up_phase, ended}
 use Rattle.session_core.specs.Plan.{says, stays, hands_out, sends_again}
@@ -130,9 +129,9 @@ early_facts base sent state message low =
     search (rules, choose, says_facts, logout_facts, asks_again_facts, resend_request_facts)
 
 -- the message that was to come, where the state has the number behind it
-hands_out_facts : (base sent : ℕ) (state : State) (message : _) (failed : Option _) (plan : Plan) → plan ≡ hands_out state message failed → message.number ≡ base → state.next_in ≡ base + 1 → Facts base sent false plan
-hands_out_facts base sent state message failed plan is own next =
-    let facts : Facts base sent false (hands_out state message failed) = record {
+hands_out_facts : (base sent : ℕ) (state : State) (message : _) (plan : Plan) → plan ≡ hands_out state message → message.number ≡ base → state.next_in ≡ base + 1 → Facts base sent false plan
+hands_out_facts base sent state message plan is own next =
+    let facts : Facts base sent false (hands_out state message) = record {
       next = omega arith;
       request = λ head e. (let same : message.number ≡ head.number = cc in omega arith, next);
       span = λ span e. absurd (cc);
@@ -150,7 +149,7 @@ unfolding by_type logs_out
 type_facts base sent state message plan is own next =
     let low : base ≤ state.next_in = omega arith in
     let least : base ≤ message.number + 1 = omega arith in
-    let out = hands_out_facts base sent state message None (hands_out state message None) refl own next in
+    let out = hands_out_facts base sent state message (hands_out state message) refl own next in
     let facts : Facts base sent false (by_type state message sent) = search (rules, choose, says_facts, answers_facts, resend_request_facts, sets_facts, rejects_facts, out) depth 12 in
     subst (λ (p : Plan). Facts base sent false p) (sym is) facts
 
@@ -158,8 +157,7 @@ turn_facts : (base sent : ℕ) (state : State) (message : _) (plan : Plan) → p
 unfolding in_turn
 turn_facts base sent state message plan is own next =
     let low : base ≤ state.next_in = omega arith in
-    let failed = failed_of message.kind message.fields in
-    let out = hands_out_facts base sent state message failed (hands_out state message failed) refl own next in
+    let out = hands_out_facts base sent state message (hands_out state message) refl own next in
     let typed = type_facts base sent state message (by_type state message sent) refl own next in
     let facts : Facts base sent false (in_turn state message sent) = search (rules, choose, unless_failed_facts, out, typed) in
     subst (λ (p : Plan). Facts base sent false p) (sym is) facts

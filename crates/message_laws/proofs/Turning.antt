@@ -107,8 +107,8 @@ stays_none state next number fields = record { way = inr tt }
 again_none : (state : State) (span : Span) (number : ℕ) (fields : List Field) → IsReject state number fields (sends_again state span)
 again_none state span number fields = record { way = inr tt }
 
-out_none : (state : State) (number : ℕ) (fields : List Field) (failed : Option FailedCheck) → IsReject state number fields (hands_out state (incoming number fields) failed)
-out_none state number fields failed = record { way = inr tt }
+out_none : (state : State) (number : ℕ) (fields : List Field) → IsReject state number fields (hands_out state (incoming number fields))
+out_none state number fields = record { way = inr tt }
 
 resend_reject : (state : State) (number sent : ℕ) (fields : List Field) → IsReject state number fields (on_resend_request state (incoming number fields) sent)
 unfolding on_resend_request resends
@@ -177,11 +177,11 @@ reject_is_alone = record {
 
 -- ---- an order
 
-hands_out_in_turn : (machine : Machine) (moment : ℤ) (fields : List Field) → is_order (kind_of fields) ≡ true → in_turn (taken machine moment) (incoming machine.state.next_in fields) (length machine.sent) ≡ hands_out (taken machine moment) (incoming machine.state.next_in fields) (failed_of (kind_of fields) fields)
+hands_out_in_turn : (machine : Machine) (moment : ℤ) (fields : List Field) → is_order (kind_of fields) ≡ true → in_turn (taken machine moment) (incoming machine.state.next_in fields) (length machine.sent) ≡ hands_out (taken machine moment) (incoming machine.state.next_in fields)
 unfolding in_turn
 hands_out_in_turn machine moment fields order = rw order refl
 
-carries_order : (machine : Machine) (moment : ℤ) (fields : List Field) → is_up machine.state ≡ true → carried_out machine moment fields (hands_out (taken machine moment) (incoming machine.state.next_in fields) (failed_of (kind_of fields) fields)) ≡ handed_out machine fields moment
+carries_order : (machine : Machine) (moment : ℤ) (fields : List Field) → is_up machine.state ≡ true → carried_out machine moment fields (hands_out (taken machine moment) (incoming machine.state.next_in fields)) ≡ handed_out machine fields moment
 unfolding carried_out replies_of new_frames
 carries_order machine moment fields up =
     let none : cause_of machine.state.phase ≡ None = (up_is machine.state.phase up).1 in

@@ -98,13 +98,12 @@ handed_out machine fields moment =
                   number = machine.state.next_in;
                   kind = kind_of fields;
                   fields = fields;
-                  failed = failed_of (kind_of fields) fields;
                 });
             ended = None;
           };
     }
 
--- an order that was to come is handed out with all its fields, and with the first check that it fails
+-- an order that was to come is handed out with all its fields
 abbrev pub OrderIsHandedOut : Type 0
 OrderIsHandedOut =
     (machine : Machine) (frame : List ℕ) (moment : ℤ) (fields : List Field) →

@@ -53,10 +53,10 @@ pub fn reject_is_alone()
     ensures { RejectIsAlone }
 {}
 
-/// One message that was to come, over every session that is up: an order is handed out under its number with all its fields and
-/// with the first check that it fails, if any; one number more is expected, and nothing is sent.
-// Rules out an order that is dropped, one that is answered by the session itself, and one whose fields or failed check are
-// those of another message.
+/// One message that was to come, over every session that is up: an order is handed out under its number with all its fields;
+/// one number more is expected, and nothing is sent.
+// Rules out an order that is dropped, one that is answered by the session itself, and one whose fields are those of another
+// message.
 pub fn order_is_handed_out()
     ensures { OrderIsHandedOut }
 {}

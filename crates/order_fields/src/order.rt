@@ -37,7 +37,12 @@ pub enum Decoded {
 
 /// The command that an order asks of a book.
 #[tactic(auto, unfolding(crate::specs::Order::command_of))]
-fn command_of(alloc: Global, kind: u8, member: u32, fields: &[Field]) -> Result<Command, NoMemory>
+fn command_of(
+    alloc: Global,
+    kind: u8,
+    member: u32,
+    fields: &[Field<'_>],
+) -> Result<Command, NoMemory>
     ensures { IfOk result (λ command. command ≡ command_of kind member fields.now) }
 {
     let id = copy_of(alloc, CL_ORD_ID, fields)?;
@@ -69,7 +74,7 @@ fn command_of(alloc: Global, kind: u8, member: u32, fields: &[Field]) -> Result<
 /// The refusal of a cancel or a replace of a symbol that is not configured.
 fn refused(
     alloc: Global,
-    fields: &[Field],
+    fields: &[Field<'_>],
     id: Bytes,
     request: RefusedRequest,
 ) -> Result<Kind, NoMemory>
@@ -86,7 +91,7 @@ fn refused(
 
 /// What answers an order of a symbol that is not configured.
 #[tactic(auto, unfolding(crate::specs::Order::stray_kind))]
-fn stray_kind(alloc: Global, kind: u8, fields: &[Field]) -> Result<Kind, NoMemory>
+fn stray_kind(alloc: Global, kind: u8, fields: &[Field<'_>]) -> Result<Kind, NoMemory>
     ensures { IfOk result (λ answer. answer ≡ stray_kind kind fields.now) }
 {
     let id = copy_of(alloc, CL_ORD_ID, fields)?;
@@ -129,7 +134,7 @@ fn symbol_of(symbols: &[Bytes], name: &[u8]) -> Option<u32>
 #[tactic(auto, unfolding(crate::specs::Order::decoded_of))]
 fn decoded_of(
     alloc: Global,
-    request: &Request,
+    request: &Request<'_>,
     member: u32,
     config: &Config,
     moment: i64,
@@ -158,11 +163,11 @@ fn decoded_of(
 /// What a message of a configured member asks for, or the first refusal. The moment, in milliseconds since 1970-01-01
 /// 00:00 UTC, is that of the report that answers an order of a symbol that is not configured; its place is the
 /// message's MsgSeqNum(34), and its event is 0. An order is refused by the first check that it fails of those of every
-/// message and its own type together, so `request.failed` is not asked.
+/// message and its own type together.
 #[tactic(auto, unfolding(crate::specs::Order::order))]
 pub fn read_order(
     alloc: Global,
-    request: &Request,
+    request: &Request<'_>,
     member: u32,
     config: &Config,
     moment: i64,

@@ -13,7 +13,7 @@ use std::alloc::Global;
 use venue_words::{Bytes, NoMemory, Terms};
 
 /// A copy of the value of a tag.
-pub fn copy_of(alloc: Global, tag: u32, fields: &[Field]) -> Result<Bytes, NoMemory>
+pub fn copy_of(alloc: Global, tag: u32, fields: &[Field<'_>]) -> Result<Bytes, NoMemory>
     ensures { IfOk result (λ bytes. bytes ≡ text_in tag fields.now) }
 {
     Ok(Bytes::copy_of(alloc, text_in(tag, fields))?)
@@ -21,7 +21,7 @@ pub fn copy_of(alloc: Global, tag: u32, fields: &[Field]) -> Result<Bytes, NoMem
 
 /// The code of a tag, which is one byte.
 #[tactic(auto, unfolding(crate::specs::Reading::code_in))]
-fn code_in(tag: u32, fields: &[Field]) -> Option<u8>
+fn code_in(tag: u32, fields: &[Field<'_>]) -> Option<u8>
     ensures { result ≡ code_in tag fields.now }
 {
     match value_of(tag, fields) {
@@ -31,7 +31,7 @@ fn code_in(tag: u32, fields: &[Field]) -> Option<u8>
 }
 
 /// The code of a tag that was checked to be there.
-pub fn code_or_zero(tag: u32, fields: &[Field]) -> u8
+pub fn code_or_zero(tag: u32, fields: &[Field<'_>]) -> u8
     ensures { result ≡ code_or_zero tag fields.now }
 {
     code_in(tag, fields).unwrap_or(0)
@@ -39,7 +39,7 @@ pub fn code_or_zero(tag: u32, fields: &[Field]) -> u8
 
 /// The amount of a tag.
 #[tactic(auto, unfolding(crate::specs::Reading::amount_in))]
-fn amount_in(tag: u32, fields: &[Field]) -> Option<i128>
+fn amount_in(tag: u32, fields: &[Field<'_>]) -> Option<i128>
     ensures { result ≡ amount_in tag fields.now }
 {
     match value_of(tag, fields) {
@@ -49,7 +49,7 @@ fn amount_in(tag: u32, fields: &[Field]) -> Option<i128>
 }
 
 /// The amount of a tag that was checked to be there.
-pub fn amount_or_zero(tag: u32, fields: &[Field]) -> i128
+pub fn amount_or_zero(tag: u32, fields: &[Field<'_>]) -> i128
     ensures { result ≡ amount_or_zero tag fields.now }
 {
     match amount_in(tag, fields) {
@@ -60,7 +60,7 @@ pub fn amount_or_zero(tag: u32, fields: &[Field]) -> i128
 
 /// The terms of an order.
 #[tactic(auto, unfolding(crate::specs::Reading::terms_of))]
-pub fn terms_of(fields: &[Field]) -> Terms
+pub fn terms_of(fields: &[Field<'_>]) -> Terms
     ensures { result ≡ terms_of fields.now }
 {
     Terms {

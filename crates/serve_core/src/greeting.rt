@@ -59,7 +59,7 @@ fn member_named(members: &[Bytes], name: &[u8]) -> Option<usize>
 }
 
 /// Whose the connection is whose first frame has these fields.
-fn greeted_by(config: &Config, fields: &[Field]) -> Greeting
+fn greeted_by(config: &Config, fields: &[Field<'_>]) -> Greeting
     requires { length config.now.members ≤ MAX_MEMBERS }
     ensures said { result ≡ greeted_by config.now fields.now }
     ensures some { result ≢ Greeting.Unnamed }

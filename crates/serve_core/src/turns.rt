@@ -32,7 +32,7 @@ fn take_counted<F: Floor, L: Ledger>(
     desk: &mut Desk,
     piece: &[u8],
     blank: Blank,
-) -> Result<Turn, DeskRefusal>
+) -> Result<Turn<'static>, DeskRefusal>
     requires config { IsConfig source.config.now }
     requires setup { IsSetUpFor source.config.now (F.mark floor.old).setup }
     requires own { desk.old.member ≡ source.member }
@@ -100,7 +100,7 @@ fn put_reports<F: Floor, K: Link>(
 }
 
 /// The end that a turn of the session says, if it ended the connection.
-fn end_in(turn: &Turn) -> Option<LinkEnd>
+fn end_in(turn: &Turn<'_>) -> Option<LinkEnd>
     ensures { MatchOption result (turn.now.ended ≡ None) (λ end. (cause : EndCause) × (turn.now.ended ≡ Some cause)
         × (end ≡ end_of cause)) }
 {
@@ -116,7 +116,7 @@ fn put_turn<F: Floor, K: Link>(
     floor: &mut F,
     desk: &mut Desk,
     link: &mut K,
-    turn: &Turn,
+    turn: &Turn<'_>,
 ) -> Result<(), LinkEnd>
     requires config { IsConfig source.config.now }
     requires setup { IsSetUpFor source.config.now (F.mark floor.old).setup }

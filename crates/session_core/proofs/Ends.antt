@@ -1,13 +1,12 @@
 -- A session that is over stays as it is.
 use Rattle.std.proofs.Common.{◌≡◌, Ok, Err, [], ◌∷◌, true, false, refl, ap, subst, ◌∙◌}
-use Rattle.std.specs.Prelude.{IsTrue, not}
 use Rattle.session_core.specs.declared.runs.Input.{Input}
 use Rattle.session_core.specs.declared.runs.Input.TheVariants.{Connection, Frame, TooLong, Tick, Send, Reject}
 use Rattle.session_core.specs.declared.state.Phase.{Phase}
 use Rattle.session_core.specs.declared.state.Phase.TheVariants.{New, Up, Ended}
 use Rattle.session_core.specs.State.{is_up_phase, is_over}
 use Rattle.session_core.specs.Machine.{Machine, Outcome, rests, on_frame, on_clock, on_overlong}
-use Rattle.session_core.specs.Runs.{outcome_of, Follows}
+use Rattle.session_core.specs.Runs.{outcome_of, Follows, MayWantMemory}
 use Rattle.session_core.specs.Laws.{is_connection, EndedStays}
 
 -- what is over is not up
@@ -27,6 +26,16 @@ outcome_over machine (Tick moment) over none = rw (over_not_up machine.state.pha
 outcome_over machine (Send messages moment) over none = rw (over_not_up machine.state.phase over) refl
 outcome_over machine (Reject number kind tag reason moment) over none = rw (over_not_up machine.state.phase over) refl
 
+-- and for it no memory is wanted
+wants_nothing : (machine : Machine) (input : Input) → is_over machine.state.phase ≡ true → is_connection input ≡ false →
+    MayWantMemory machine input → ⊥
+wants_nothing machine Connection over none wanted = wanted
+wants_nothing machine (Frame frame moment) over none wanted = let impossible : false ≡ true = rw over at wanted in cc
+wants_nothing machine (TooLong moment) over none wanted = let impossible : false ≡ true = rw over at wanted in cc
+wants_nothing machine (Tick moment) over none wanted = let impossible : false ≡ true = rw (over_not_up machine.state.phase over) at wanted in cc
+wants_nothing machine (Send messages moment) over none wanted = let impossible : false ≡ true = rw (over_not_up machine.state.phase over) at wanted in cc
+wants_nothing machine (Reject number kind tag reason moment) over none wanted = let impossible : false ≡ true = rw (over_not_up machine.state.phase over) at wanted in cc
+
 pub ended_stays : EndedStays
 ended_stays machine [] [] last over none follows = (follows, tt)
 ended_stays machine [] (answer ∷ answers) last over none follows = absurd follows
@@ -39,5 +48,4 @@ ended_stays machine (input ∷ inputs) (Ok turn ∷ answers) last over none foll
     let same : turn ≡ (rests machine).turn = follows.0 ∙ ap (λ (outcome : Outcome). outcome.turn) passed in
     (others.0, (ap Ok same, others.1))
 ended_stays machine (input ∷ inputs) (Err no_memory ∷ answers) last over none follows =
-    let wanted : IsTrue (not (is_over machine.state.phase)) = follows.0 in
-    let impossible : false ≡ true = rw over at wanted in cc
+    absurd (wants_nothing machine input over none.0 follows.0)

@@ -72,7 +72,7 @@ machine_after machine moment plan =
     }
 
 abbrev pub request_of : List Field → RequestHead → Request
-request_of fields head = record { number = head.number; kind = head.kind; fields = fields; failed = head.failed }
+request_of fields head = record { number = head.number; kind = head.kind; fields = fields }
 
 -- a plan carried out, over the fields of a message
 unfoldable pub carried_out : Machine → ℤ → List Field → Plan → Outcome

@@ -1,6 +1,5 @@
 -- What a turn is to do: the next state, what is sent, and what is handed out.
-use Rattle.std.specs.Prelude.{◌≡◌, true, false, List, [], Option, Some, None, OnSome}
-use Rattle.session_core.specs.declared.checks.FailedCheck.{FailedCheck}
+use Rattle.std.specs.Prelude.{◌≡◌, true, false, List, [], Some, None, OnSome}
 use Rattle.session_core.specs.declared.message.Incoming.{Incoming}
 use Rattle.session_core.specs.declared.message.Message.{Message}
 use Rattle.session_core.specs.declared.state.State.{State}
@@ -17,14 +16,14 @@ abbrev pub stays : State → Plan
 stays state = says state []
 
 -- the message is handed out
-abbrev pub hands_out : State → Incoming → Option FailedCheck → Plan
-hands_out state incoming failed =
+abbrev pub hands_out : State → Incoming → Plan
+hands_out state incoming =
     record {
       state = state;
       reset = false;
       resend = None;
       messages = [];
-      request = Some (record { number = incoming.number; kind = incoming.kind; failed = failed });
+      request = Some (record { number = incoming.number; kind = incoming.kind });
     }
 
 -- messages are sent again

@@ -7,7 +7,7 @@ use Rattle.session_core.specs.declared.runs.Input.{Input}
 use Rattle.session_core.specs.declared.runs.Input.TheVariants.{Connection, Frame, TooLong, Tick, Send, Reject}
 use Rattle.session_core.specs.declared.turn.Turn.{Turn}
 use Rattle.session_core.specs.State.{is_up, is_over}
-use Rattle.session_core.specs.Machine.{Machine, Outcome, rests, connected, given_up, on_frame, on_overlong, on_clock, on_send, on_reject}
+use Rattle.session_core.specs.Machine.{Machine, Outcome, IsUp, rests, connected, given_up, on_frame, on_overlong, on_clock, on_send, on_reject}
 
 -- a frame is not too long
 abbrev pub IsShort : Input → Type 0
@@ -50,10 +50,20 @@ abbrev pub machine_behind : Machine → Input → Result Turn NoMemory → Machi
 machine_behind machine input (Ok turn) = (outcome_of machine input).machine
 machine_behind machine input (Err no_memory) = without_memory machine input
 
--- an answer is the machine's turn; memory may be wanted, but not by a session that is over
+-- an input may want memory: a connection never does, what is received only where the session is not over, and the clock and what is
+-- to be sent only where it is up
+abbrev pub MayWantMemory : Machine → Input → Type 0
+MayWantMemory machine Connection = ⊥
+MayWantMemory machine (Frame frame moment) = IsTrue (not (is_over machine.state.phase))
+MayWantMemory machine (TooLong moment) = IsTrue (not (is_over machine.state.phase))
+MayWantMemory machine (Tick moment) = IsUp machine
+MayWantMemory machine (Send messages moment) = IsUp machine
+MayWantMemory machine (Reject number kind tag reason moment) = IsUp machine
+
+-- an answer is the machine's turn, or memory was wanted
 abbrev pub Answers : Machine → Input → Result Turn NoMemory → Type 0
 Answers machine input (Ok turn) = turn ≡ (outcome_of machine input).turn
-Answers machine input (Err no_memory) = IsTrue (not (is_over machine.state.phase))
+Answers machine input (Err no_memory) = MayWantMemory machine input
 
 -- the answers to a list of inputs, and the session behind the last
 abbrev pub Follows : Machine → List Input → List (Result Turn NoMemory) → Machine → Type 0

@@ -1,5 +1,5 @@
 -- What a message asks of a session that is up, by its number and its type.
-use Rattle.std.specs.Prelude.{ℕ, ◌+◌, ◌==◌, not, ◌&&◌, ◌||◌, nat_lt, nat_le, if◌then◌else◌, [], ◌∷◌, None, is_none, codes}
+use Rattle.std.specs.Prelude.{ℕ, ◌+◌, ◌==◌, not, ◌&&◌, ◌||◌, nat_lt, nat_le, if◌then◌else◌, [], ◌∷◌, is_none, codes}
 use Rattle.session_core.specs.declared.message_types.TheConstants.{HEARTBEAT, TEST_REQUEST, RESEND_REQUEST, REJECT, SEQUENCE_RESET, LOGOUT, LOGON}
 use Rattle.fix_write.specs.declared.tags.TheConstants.{MSG_TYPE, POSS_DUP_FLAG}
 use Rattle.session_core.specs.declared.tags.TheConstants.{NEW_SEQ_NO, TEST_REQ_ID, GAP_FILL_FLAG}
@@ -59,12 +59,12 @@ by_type state incoming sent =
     else (if incoming.kind == SEQUENCE_RESET then sets_next state incoming (incoming.number + 1)
     else (if incoming.kind == LOGOUT then logs_out state Logout []
     else (if incoming.kind == LOGON then rejects state incoming MSG_TYPE WRONG_TYPE
-    else hands_out state incoming None)))))
+    else hands_out state incoming)))))
 
 -- the message that was to come
 unfoldable pub in_turn : State → Incoming → ℕ → Plan
 in_turn state incoming sent =
-    if is_order incoming.kind then hands_out state incoming (failed_of incoming.kind incoming.fields)
+    if is_order incoming.kind then hands_out state incoming
     else unless_failed state incoming (failed_of incoming.kind incoming.fields) (by_type state incoming sent)
 
 -- by its number

@@ -40,7 +40,7 @@ pub fn drops(alloc: Global, state: State, cause: EndCause, text: &[u8]) -> Resul
 pub fn rejects(
     alloc: Global,
     state: State,
-    incoming: &Incoming,
+    incoming: &Incoming<'_>,
     tag: u32,
     reason: u8,
 ) -> Result<Plan, NoMemory>
@@ -57,7 +57,7 @@ pub fn rejects(
 pub fn drops_wrong_name(
     alloc: Global,
     state: State,
-    incoming: &Incoming,
+    incoming: &Incoming<'_>,
     tag: u32,
 ) -> Result<Plan, NoMemory>
     ensures plan { IfOk result (λ p. p ≡ drops_wrong_name state incoming.now tag) }

@@ -23,7 +23,7 @@ pub fn on_message(
     member: &[u8],
     sent: u64,
     state: State,
-    incoming: &Incoming,
+    incoming: &Incoming<'_>,
 ) -> Result<Plan, NoMemory>
     requires { incoming.now.number < 1_000_000_000 }
     ensures plan { IfOk result (λ p. p ≡ on_message member.now sent state incoming.now) }

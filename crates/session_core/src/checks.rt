@@ -1,5 +1,6 @@
 //! The checks of a message over a table, which says what tags it must have and may have, and the form of each.
-ghost use Rattle.std.specs.Prelude.{◌≡◌, []};
+ghost use Rattle.std.specs.Prelude.{◌≡◌, ◌&&◌, false, [], None, is_some};
+ghost use Rattle.session_core.specs.Lookup.{value_of};
 ghost use Rattle.session_core.specs.Checks.{has_form, first_empty, is_listed, is_read, first_repeated, first_missing, is_outside, first_outside, is_long, first_long, first_failed};
 
 use crate::lookup::value_of;
@@ -62,12 +63,12 @@ fn has_form(form: Form, bytes: &[u8]) -> bool
 
 /// The tag of the first field with an empty value.
 #[tactic(auto, unfolding(crate::specs::Checks::first_empty))]
-fn first_empty(fields: &[Field]) -> Option<u32>
+fn first_empty(fields: &[Field<'_>]) -> Option<u32>
     ensures { result ≡ first_empty fields.now }
 {
     fields
         .iter()
-        .find(|field| field.bytes.as_slice().is_empty())
+        .find(|field| field.bytes.is_empty())
         .map(|field| field.tag)
 }
 
@@ -80,7 +81,7 @@ fn is_listed(tag: u32, items: &[Item]) -> bool
 
 /// The first of these tags that is missing.
 #[tactic(auto, unfolding(crate::specs::Checks::first_missing))]
-fn first_missing(items: &[Item], fields: &[Field]) -> Option<u32>
+fn first_missing(items: &[Item], fields: &[Field<'_>]) -> Option<u32>
     ensures { result ≡ first_missing items.now fields.now }
 {
     items
@@ -101,21 +102,39 @@ fn is_read(required: &[Item], optional: &[Item], tag: u32) -> bool
         || is_listed(tag, optional)
 }
 
+/// Whether the tag of a field is read and stood before, where that can be: a tag whose remainder was not seen stood not.
+fn is_repeated(
+    seen: bool,
+    required: &[Item],
+    optional: &[Item],
+    tag: u32,
+    before: &[Field<'_>],
+) -> bool
+    requires { seen ≡ false → value_of tag before.now ≡ None }
+    ensures { result ≡ is_read required.now optional.now tag && is_some (value_of tag before.now) }
+{
+    seen && is_read(required, optional, tag) && value_of(tag, before).is_some()
+}
+
 /// The first field whose tag is read and stood before.
 #[tactic(auto, unfolding(crate::specs::Checks::first_repeated))]
-fn first_repeated(required: &[Item], optional: &[Item], fields: &[Field]) -> Option<u32>
+fn first_repeated(required: &[Item], optional: &[Item], fields: &[Field<'_>]) -> Option<u32>
     ensures { result ≡ first_repeated required.now optional.now [] fields.now }
 {
+    // By the remainders of tags most fields need no look at those before them.
+    let mut seen = [false; 64];
     for (i, field) in fields.iter().enumerate() {
-        if is_read(required, optional, field.tag) && value_of(field.tag, &fields[..i]).is_some() {
+        let remainder = (field.tag % 64) as usize;
+        if is_repeated(seen[remainder], required, optional, field.tag, &fields[..i]) {
             return Some(field.tag);
         }
+        seen[remainder] = true;
     }
     None
 }
 
 /// Whether a tag is there with a value outside its form.
-fn is_outside(item: Item, fields: &[Field]) -> bool
+fn is_outside(item: Item, fields: &[Field<'_>]) -> bool
     ensures { result ≡ is_outside fields.now item }
 {
     match value_of(item.tag, fields) {
@@ -126,7 +145,7 @@ fn is_outside(item: Item, fields: &[Field]) -> bool
 
 /// The first of these tags that has a value outside its form.
 #[tactic(auto, unfolding(crate::specs::Checks::first_outside))]
-fn first_outside(items: &[Item], fields: &[Field]) -> Option<u32>
+fn first_outside(items: &[Item], fields: &[Field<'_>]) -> Option<u32>
     ensures { result ≡ first_outside items.now fields.now }
 {
     items
@@ -136,7 +155,7 @@ fn first_outside(items: &[Item], fields: &[Field]) -> Option<u32>
 }
 
 /// Whether a tag is there with an identifier that is too long.
-fn is_long(item: Item, fields: &[Field]) -> bool
+fn is_long(item: Item, fields: &[Field<'_>]) -> bool
     ensures { result ≡ is_long fields.now item }
 {
     match (item.form, value_of(item.tag, fields)) {
@@ -147,7 +166,7 @@ fn is_long(item: Item, fields: &[Field]) -> bool
 
 /// The first of these tags that has an identifier that is too long.
 #[tactic(auto, unfolding(crate::specs::Checks::first_long))]
-fn first_long(items: &[Item], fields: &[Field]) -> Option<u32>
+fn first_long(items: &[Item], fields: &[Field<'_>]) -> Option<u32>
     ensures { result ≡ first_long items.now fields.now }
 {
     items
@@ -160,7 +179,11 @@ fn first_long(items: &[Item], fields: &[Field]) -> Option<u32>
 /// an empty value, a read tag that stands twice, a missing tag, a value outside its form, an identifier of more than
 /// 64 bytes.
 #[tactic(auto, unfolding(crate::specs::Checks::first_failed))]
-pub fn first_failed(required: &[Item], optional: &[Item], fields: &[Field]) -> Option<FailedCheck>
+pub fn first_failed(
+    required: &[Item],
+    optional: &[Item],
+    fields: &[Field<'_>],
+) -> Option<FailedCheck>
     ensures { result ≡ first_failed required.now optional.now fields.now }
 {
     if let Some(tag) = first_empty(fields) {

@@ -18,7 +18,7 @@ use std::alloc::Global;
 use venue_words::NoMemory;
 
 /// Whether EncryptMethod(98) is there and is 0.
-fn is_unencrypted(fields: &[Field]) -> bool
+fn is_unencrypted(fields: &[Field<'_>]) -> bool
     ensures { result ≡ option_map_or (λ n. n == 0) (number_in ENCRYPT_METHOD fields.now) false }
 {
     match number_in(ENCRYPT_METHOD, fields) {
@@ -29,7 +29,7 @@ fn is_unencrypted(fields: &[Field]) -> bool
 
 /// Whether a Logon fails a check, or asks for what this venue does not do.
 #[tactic(auto, unfolding(crate::specs::Logon::is_bad_logon))]
-fn is_bad_logon(incoming: &Incoming) -> bool
+fn is_bad_logon(incoming: &Incoming<'_>) -> bool
     ensures { result ≡ is_bad_logon incoming.now }
 {
     let fields = incoming.fields.as_slice();
@@ -41,7 +41,7 @@ fn is_bad_logon(incoming: &Incoming) -> bool
 }
 
 /// The state after a Logon, where `next` is the number that it was to have.
-fn logged_on(state: State, incoming: &Incoming, next: u32) -> State
+fn logged_on(state: State, incoming: &Incoming<'_>, next: u32) -> State
     requires { incoming.now.number < 1_000_000_000 }
     ensures { result ≡ logged_on state incoming.now next }
 {
@@ -63,7 +63,7 @@ fn logged_on(state: State, incoming: &Incoming, next: u32) -> State
 fn takes_logon(
     alloc: Global,
     state: State,
-    incoming: &Incoming,
+    incoming: &Incoming<'_>,
     reset: bool,
     next: u32,
 ) -> Result<Plan, NoMemory>
@@ -85,7 +85,7 @@ fn takes_logon(
 
 /// What a Logon asks.
 #[tactic(auto, unfolding(crate::specs::Logon::on_logon))]
-fn on_logon(alloc: Global, state: State, incoming: &Incoming) -> Result<Plan, NoMemory>
+fn on_logon(alloc: Global, state: State, incoming: &Incoming<'_>) -> Result<Plan, NoMemory>
     requires { incoming.now.number < 1_000_000_000 }
     ensures plan { IfOk result (λ p. p ≡ on_logon state incoming.now) }
     ensures quiet { IfOk result (λ p. p.request ≡ None) }
@@ -103,7 +103,7 @@ fn on_logon(alloc: Global, state: State, incoming: &Incoming) -> Result<Plan, No
 
 /// What any message asks before the Logon.
 #[tactic(auto, unfolding(crate::specs::Logon::before_logon))]
-pub fn before_logon(alloc: Global, state: State, incoming: &Incoming) -> Result<Plan, NoMemory>
+pub fn before_logon(alloc: Global, state: State, incoming: &Incoming<'_>) -> Result<Plan, NoMemory>
     requires { incoming.now.number < 1_000_000_000 }
     ensures plan { IfOk result (λ p. p ≡ before_logon state incoming.now) }
     ensures quiet { IfOk result (λ p. p.request ≡ None) }

@@ -8,18 +8,18 @@ use fix_fields::{Field, number};
 
 /// The value of a tag.
 #[tactic(auto, unfolding(crate::specs::Lookup::value_of))]
-pub fn value_of(tag: u32, fields: &[Field]) -> Option<&[u8]>
+pub fn value_of<'a>(tag: u32, fields: &[Field<'a>]) -> Option<&'a [u8]>
     ensures { option_copied result ≡ value_of tag fields.now }
 {
     fields
         .iter()
         .find(|field| field.tag == tag)
-        .map(|field| field.bytes.as_slice())
+        .map(|field| field.bytes)
 }
 
 /// The value of a tag as a number: 1 to 9 digits.
 #[tactic(auto, unfolding(crate::specs::Lookup::number_in))]
-pub fn number_in(tag: u32, fields: &[Field]) -> Option<u32>
+pub fn number_in(tag: u32, fields: &[Field<'_>]) -> Option<u32>
     ensures value { result ≡ number_in tag fields.now }
     ensures small { IfSome result (λ n. n < 1_000_000_000) }
 {
@@ -31,7 +31,7 @@ pub fn number_in(tag: u32, fields: &[Field]) -> Option<u32>
 
 /// Whether the value of a tag is there and is this one.
 #[tactic(auto, unfolding(crate::specs::Lookup::is_value))]
-pub fn is_value(tag: u32, expected: &[u8], fields: &[Field]) -> bool
+pub fn is_value(tag: u32, expected: &[u8], fields: &[Field<'_>]) -> bool
     ensures { result ≡ is_value tag expected.now fields.now }
 {
     match value_of(tag, fields) {
@@ -41,7 +41,7 @@ pub fn is_value(tag: u32, expected: &[u8], fields: &[Field]) -> bool
 }
 
 /// The value of a tag as a number, or 0.
-pub(crate) fn number_or_zero(tag: u32, fields: &[Field]) -> u32
+pub(crate) fn number_or_zero(tag: u32, fields: &[Field<'_>]) -> u32
     ensures value { result ≡ number_or_zero tag fields.now }
     ensures small { result < 1_000_000_000 }
 {
@@ -53,7 +53,7 @@ pub(crate) fn number_or_zero(tag: u32, fields: &[Field]) -> u32
 
 /// The value of a tag, or nothing.
 #[tactic(auto, unfolding(crate::specs::Lookup::text_in))]
-pub fn text_in(tag: u32, fields: &[Field]) -> &[u8]
+pub fn text_in<'a>(tag: u32, fields: &[Field<'a>]) -> &'a [u8]
     ensures { result.now ≡ text_in tag fields.now }
 {
     match value_of(tag, fields) {
@@ -63,7 +63,7 @@ pub fn text_in(tag: u32, fields: &[Field]) -> &[u8]
 }
 
 /// Whether the value of a tag is `Y`.
-pub(crate) fn is_yes(tag: u32, fields: &[Field]) -> bool
+pub(crate) fn is_yes(tag: u32, fields: &[Field<'_>]) -> bool
     ensures { result ≡ is_yes tag fields.now }
 {
     is_value(tag, b"Y", fields)
@@ -81,7 +81,7 @@ pub fn single_byte(bytes: &[u8]) -> u8
 
 /// The byte of MsgType(35) where it has exactly one, and else 0.
 #[tactic(auto, unfolding(crate::specs::Lookup::kind_of))]
-pub fn kind_of(fields: &[Field]) -> u8
+pub fn kind_of(fields: &[Field<'_>]) -> u8
     ensures { result ≡ kind_of fields.now }
 {
     match value_of(MSG_TYPE, fields) {
@@ -92,7 +92,7 @@ pub fn kind_of(fields: &[Field]) -> u8
 
 /// MsgSeqNum(34), where it is a number from 1 to 999,999,999.
 #[tactic(auto, unfolding(crate::specs::Lookup::message_number))]
-pub fn message_number(fields: &[Field]) -> Option<u32>
+pub fn message_number(fields: &[Field<'_>]) -> Option<u32>
     ensures value { result ≡ message_number fields.now }
     ensures small { IfSome result (λ n. n < 1_000_000_000) }
 {

@@ -2,7 +2,6 @@
 ghost use Rattle.std.specs.Prelude.{◌≡◌, Option, None, Some, IfOk};
 ghost use Rattle.std.specs.Option.{option_copied};
 
-use crate::checks::FailedCheck;
 use fix_fields::Field;
 use std::alloc::Global;
 use std::marker::Model;
@@ -10,27 +9,26 @@ use venue_words::{Bytes, Items, NoMemory};
 
 /// A message that was received, with its number.
 #[derive(Debug, Drop)]
-pub(crate) struct Incoming {
+pub(crate) struct Incoming<'a> {
     /// MsgSeqNum(34).
     pub number: u32,
     /// The byte of MsgType(35) where it has exactly one, and else 0.
     pub kind: u8,
     /// All its fields, in their order.
-    pub fields: Items<Field>,
+    pub fields: Items<Field<'a>>,
 }
 
-/// A message that the session hands out, since it is not one of the session's own.
+/// A message that the session hands out, since it is not one of the session's own, over the bytes of its frame. An order
+/// (35=D, F, G and H) is handed out unchecked: who reads it puts it to the checks of every message and of its type
+/// together. A message of any other type that fails one of the former is rejected by the session and not handed out.
 #[derive(Debug, Drop)]
-pub struct Request {
+pub struct Request<'a> {
     /// MsgSeqNum(34).
     pub number: u32,
     /// The byte of MsgType(35) where it has exactly one, and else 0.
     pub kind: u8,
     /// All its fields, in their order.
-    pub fields: Items<Field>,
-    /// Of an order (35=D, F, G and H), the first check that it fails of those that every message is put to. A message
-    /// of any other type that fails one of these is rejected by the session and not handed out.
-    pub failed: Option<FailedCheck>,
+    pub fields: Items<Field<'a>>,
 }
 
 /// A message that is to be sent, without its head.

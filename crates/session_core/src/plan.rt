@@ -2,7 +2,6 @@
 ghost use Rattle.std.specs.Prelude.{◌≡◌};
 ghost use Rattle.session_core.specs.Plan.{says, stays, hands_out, sends_again};
 
-use crate::checks::FailedCheck;
 use crate::message::{Incoming, Message};
 use crate::state::State;
 use std::alloc::Global;
@@ -20,7 +19,6 @@ pub struct Span {
 pub struct RequestHead {
     pub number: u32,
     pub kind: u8,
-    pub failed: Option<FailedCheck>,
 }
 
 /// What a turn is to do.
@@ -59,13 +57,8 @@ pub fn stays(alloc: Global, state: State) -> Plan
 }
 
 /// The message is handed out.
-pub fn hands_out(
-    alloc: Global,
-    state: State,
-    incoming: &Incoming,
-    failed: Option<FailedCheck>,
-) -> Plan
-    ensures { result ≡ hands_out state incoming.now failed }
+pub fn hands_out(alloc: Global, state: State, incoming: &Incoming<'_>) -> Plan
+    ensures { result ≡ hands_out state incoming.now }
 {
     Plan {
         state,
@@ -75,7 +68,6 @@ pub fn hands_out(
         request: Some(RequestHead {
             number: incoming.number,
             kind: incoming.kind,
-            failed,
         }),
     }
 }

@@ -18,7 +18,7 @@ use venue_words::NoMemory;
 fn resends(
     alloc: Global,
     state: State,
-    incoming: &Incoming,
+    incoming: &Incoming<'_>,
     sent: u64,
     asked: Span,
 ) -> Result<Plan, NoMemory>
@@ -41,7 +41,7 @@ fn resends(
 pub fn on_resend_request(
     alloc: Global,
     state: State,
-    incoming: &Incoming,
+    incoming: &Incoming<'_>,
     sent: u64,
 ) -> Result<Plan, NoMemory>
     ensures plan { IfOk result (λ p. p ≡ on_resend_request state incoming.now sent) }

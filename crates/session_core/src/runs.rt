@@ -41,15 +41,15 @@ pub enum Input {
 }
 
 impl Session {
-    ghost use Rattle.session_core.specs.Machine.{IsOver};
+    ghost use Rattle.session_core.specs.Machine.{IsUp};
     ghost use Rattle.session_core.specs.Runs.{IsShort, send_if_up, reject_if_up, machine_behind, Follows, Answers};
 
     /// Sends application messages where the session is up.
     #[tactic(auto, unfolding(crate::specs::Machine::on_send))]
-    fn send_if_up(&mut self, messages: &[Message], moment: i64) -> Result<Turn, NoMemory>
+    fn send_if_up<'a>(&mut self, messages: &[Message], moment: i64) -> Result<Turn<'a>, NoMemory>
         ensures machine { OnOk result (self.new ≡ (send_if_up self.old messages.now moment).machine) }
         ensures turn { IfOk result (λ turn. turn ≡ (send_if_up self.old messages.now moment).turn) }
-        ensures over { IsOver self.old → IsOk result }
+        ensures up { OnErr result (IsUp self.old) }
         ensures err { OnErr result (self.new ≡ self.old) }
     {
         if !self.is_up() {
@@ -61,17 +61,17 @@ impl Session {
 
     /// Sends a Reject where the session is up.
     #[tactic(auto, unfolding(crate::specs::Machine::on_reject))]
-    fn reject_if_up(
+    fn reject_if_up<'a>(
         &mut self,
         number: u32,
         kind: u8,
         tag: u32,
         reason: u8,
         moment: i64,
-    ) -> Result<Turn, NoMemory>
+    ) -> Result<Turn<'a>, NoMemory>
         ensures machine { OnOk result (self.new ≡ (reject_if_up self.old number kind tag reason moment).machine) }
         ensures turn { IfOk result (λ turn. turn ≡ (reject_if_up self.old number kind tag reason moment).turn) }
-        ensures over { IsOver self.old → IsOk result }
+        ensures up { OnErr result (IsUp self.old) }
         ensures err { OnErr result (self.new ≡ self.old) }
     {
         if !self.is_up() {
@@ -84,7 +84,7 @@ impl Session {
     }
 
     /// Works one input, each kind by the call of its name.
-    pub fn work(&mut self, input: &Input) -> Result<Turn, NoMemory>
+    pub fn work<'a>(&mut self, input: &'a Input) -> Result<Turn<'a>, NoMemory>
         requires { IsShort input.now }
         ensures answer { Answers self.old input.now result }
         ensures machine { self.new ≡ machine_behind self.old input.now result }
@@ -110,7 +110,10 @@ impl Session {
 
     /// Works a list of inputs in its order, and gives the answer to each. Where memory for the list of answers is
     /// wanted, nothing changes; where it is wanted for one input, that is its answer and the next input follows.
-    pub fn work_all(&mut self, inputs: &[Input]) -> Result<Vec<Result<Turn, NoMemory>>, NoMemory>
+    pub fn work_all<'a>(
+        &mut self,
+        inputs: &'a [Input],
+    ) -> Result<Vec<Result<Turn<'a>, NoMemory>>, NoMemory>
         requires { AllByRecursion IsShort inputs.now }
         ensures follows { IfOk result (λ answers. Follows self.old inputs.now answers.items self.new) }
         ensures err { OnErr result (self.new ≡ self.old) }

@@ -22,7 +22,12 @@ use venue_words::NoMemory;
 
 /// A SequenceReset sets the next number, where it is not below the least that it may be.
 #[tactic(auto, unfolding(crate::specs::Sequence::sets_next))]
-fn sets_next(alloc: Global, state: State, incoming: &Incoming, least: u32) -> Result<Plan, NoMemory>
+fn sets_next(
+    alloc: Global,
+    state: State,
+    incoming: &Incoming<'_>,
+    least: u32,
+) -> Result<Plan, NoMemory>
     ensures plan { IfOk result (λ p. p ≡ sets_next state incoming.now least) }
     ensures quiet { IfOk result (λ p. p.request ≡ None) }
 {
@@ -36,7 +41,7 @@ fn sets_next(alloc: Global, state: State, incoming: &Incoming, least: u32) -> Re
 
 /// What a SequenceReset that is no gap fill asks, whatever its number.
 #[tactic(auto, unfolding(crate::specs::Sequence::on_reset))]
-fn on_reset(alloc: Global, state: State, incoming: &Incoming) -> Result<Plan, NoMemory>
+fn on_reset(alloc: Global, state: State, incoming: &Incoming<'_>) -> Result<Plan, NoMemory>
     ensures plan { IfOk result (λ p. p ≡ on_reset state incoming.now) }
     ensures quiet { IfOk result (λ p. p.request ≡ None) }
 {
@@ -48,7 +53,7 @@ fn on_reset(alloc: Global, state: State, incoming: &Incoming) -> Result<Plan, No
 
 /// What a Logout asks.
 #[tactic(auto, unfolding(crate::specs::Sequence::on_logout))]
-fn on_logout(alloc: Global, state: State, incoming: &Incoming) -> Result<Plan, NoMemory>
+fn on_logout(alloc: Global, state: State, incoming: &Incoming<'_>) -> Result<Plan, NoMemory>
     ensures plan { IfOk result (λ p. p ≡ on_logout state incoming.now) }
     ensures quiet { IfOk result (λ p. p.request ≡ None) }
 {
@@ -60,7 +65,7 @@ fn on_logout(alloc: Global, state: State, incoming: &Incoming) -> Result<Plan, N
 
 /// A number that came before.
 #[tactic(auto, unfolding(crate::specs::Sequence::too_low))]
-fn too_low(alloc: Global, state: State, incoming: &Incoming) -> Result<Plan, NoMemory>
+fn too_low(alloc: Global, state: State, incoming: &Incoming<'_>) -> Result<Plan, NoMemory>
     ensures plan { IfOk result (λ p. p ≡ too_low state incoming.now) }
     ensures quiet { IfOk result (λ p. p.request ≡ None) }
 {
@@ -73,7 +78,12 @@ fn too_low(alloc: Global, state: State, incoming: &Incoming) -> Result<Plan, NoM
 
 /// A number that came too early. The message is not kept, and is asked for again.
 #[tactic(auto, unfolding(crate::specs::Sequence::too_early))]
-fn too_early(alloc: Global, state: State, incoming: &Incoming, sent: u64) -> Result<Plan, NoMemory>
+fn too_early(
+    alloc: Global,
+    state: State,
+    incoming: &Incoming<'_>,
+    sent: u64,
+) -> Result<Plan, NoMemory>
     ensures plan { IfOk result (λ p. p ≡ too_early state incoming.now sent) }
     ensures quiet { IfOk result (λ p. p.request ≡ None) }
 {
@@ -91,7 +101,7 @@ fn too_early(alloc: Global, state: State, incoming: &Incoming, sent: u64) -> Res
 
 /// A TestRequest is answered by a Heartbeat with its identifier.
 #[tactic(auto, unfolding(crate::specs::Sequence::answers_test))]
-fn answers_test(alloc: Global, state: State, incoming: &Incoming) -> Result<Plan, NoMemory>
+fn answers_test(alloc: Global, state: State, incoming: &Incoming<'_>) -> Result<Plan, NoMemory>
     ensures plan { IfOk result (λ p. p ≡ answers_test state incoming.now) }
     ensures quiet { IfOk result (λ p. p.request ≡ None) }
 {
@@ -102,7 +112,12 @@ fn answers_test(alloc: Global, state: State, incoming: &Incoming) -> Result<Plan
 
 /// What a message that passes the checks asks, by its type.
 #[tactic(auto, unfolding(crate::specs::Sequence::by_type))]
-fn by_type(alloc: Global, state: State, incoming: &Incoming, sent: u64) -> Result<Plan, NoMemory>
+fn by_type(
+    alloc: Global,
+    state: State,
+    incoming: &Incoming<'_>,
+    sent: u64,
+) -> Result<Plan, NoMemory>
     requires small { incoming.now.number < 1_000_000_000 }
     requires is_up { is_up state ≡ true }
     ensures plan { IfOk result (λ p. p ≡ by_type state incoming.now sent) }
@@ -115,23 +130,27 @@ fn by_type(alloc: Global, state: State, incoming: &Incoming, sent: u64) -> Resul
         SEQUENCE_RESET => sets_next(alloc, state, incoming, incoming.number + 1),
         LOGOUT => logs_out(alloc, state, EndCause::Logout, b""),
         LOGON => rejects(alloc, state, incoming, MSG_TYPE, WRONG_TYPE),
-        _ => Ok(hands_out(alloc, state, incoming, None)),
+        _ => Ok(hands_out(alloc, state, incoming)),
     }
 }
 
 /// What the message that was to come asks.
 #[tactic(auto, unfolding(crate::specs::Sequence::in_turn))]
-fn in_turn(alloc: Global, state: State, incoming: &Incoming, sent: u64) -> Result<Plan, NoMemory>
+fn in_turn(
+    alloc: Global,
+    state: State,
+    incoming: &Incoming<'_>,
+    sent: u64,
+) -> Result<Plan, NoMemory>
     requires small { incoming.now.number < 1_000_000_000 }
     requires is_up { is_up state ≡ true }
     ensures plan { IfOk result (λ p. p ≡ in_turn state incoming.now sent) }
     ensures up { IfOk result HandsOutUp }
 {
-    let failed = failed_of(incoming.kind, incoming.fields.as_slice());
     if is_order(incoming.kind) {
-        return Ok(hands_out(alloc, state, incoming, failed));
+        return Ok(hands_out(alloc, state, incoming));
     }
-    match failed {
+    match failed_of(incoming.kind, incoming.fields.as_slice()) {
         Some(failed) => rejects(alloc, state, incoming, failed.tag, failed.reason),
         None => by_type(alloc, state, incoming, sent),
     }
@@ -139,7 +158,12 @@ fn in_turn(alloc: Global, state: State, incoming: &Incoming, sent: u64) -> Resul
 
 /// What a message asks by its number.
 #[tactic(auto, unfolding(crate::specs::Sequence::by_number))]
-fn by_number(alloc: Global, state: State, incoming: &Incoming, sent: u64) -> Result<Plan, NoMemory>
+fn by_number(
+    alloc: Global,
+    state: State,
+    incoming: &Incoming<'_>,
+    sent: u64,
+) -> Result<Plan, NoMemory>
     requires small { incoming.now.number < 1_000_000_000 }
     requires is_up { is_up state ≡ true }
     ensures plan { IfOk result (λ p. p ≡ by_number state incoming.now sent) }
@@ -163,7 +187,7 @@ fn by_number(alloc: Global, state: State, incoming: &Incoming, sent: u64) -> Res
 pub fn when_up(
     alloc: Global,
     state: State,
-    incoming: &Incoming,
+    incoming: &Incoming<'_>,
     sent: u64,
 ) -> Result<Plan, NoMemory>
     requires small { incoming.now.number < 1_000_000_000 }

@@ -92,7 +92,7 @@ impl Session {
     }
 
     /// The turn that sends these frames.
-    pub fn sending(&self, frames: Vec<Bytes>) -> Turn
+    pub fn sending(&self, frames: Vec<Bytes>) -> Turn<'static>
         ensures { result ≡ sending self.now frames.items }
     {
         Turn {
@@ -103,7 +103,7 @@ impl Session {
     }
 
     /// A turn in which nothing happens.
-    pub(crate) fn quiet(&self) -> Turn
+    pub(crate) fn quiet<'a>(&self) -> Turn<'a>
         ensures { result ≡ (rests self.now).turn }
     {
         self.sending(Vec::new(self.alloc))
@@ -160,15 +160,15 @@ impl Session {
 
     /// Carries a plan out, over the fields of a message. Nothing changes where memory is wanted.
     #[tactic(auto, unfolding(crate::specs::Machine::carried_out))]
-    fn carry_out(
+    fn carry_out<'a>(
         &mut self,
         moment: i64,
-        fields: Items<Field>,
+        fields: Items<Field<'a>>,
         plan: &Plan,
-    ) -> Result<Turn, NoMemory>
+    ) -> Result<Turn<'a>, NoMemory>
         requires { HandsOutUp plan.now }
-        ensures machine { OnOk result (self.new ≡ (carried_out self.old moment fields plan.now).machine) }
-        ensures turn { IfOk result (λ turn. turn ≡ (carried_out self.old moment fields plan.now).turn) }
+        ensures machine { OnOk result (self.new ≡ (carried_out self.old moment fields.entry plan.now).machine) }
+        ensures turn { IfOk result (λ turn. turn ≡ (carried_out self.old moment fields.entry plan.now).turn) }
         ensures up { IfOk result (λ turn. OnSome turn.request (IsUp self.new)) }
         ensures err { OnErr result (self.new ≡ self.old) }
     {
@@ -181,9 +181,9 @@ impl Session {
     }
 
     /// What a message of these fields does. Nothing changes where memory is wanted.
-    fn work_fields(&mut self, fields: Vec<Field>, moment: i64) -> Result<Turn, NoMemory>
-        ensures machine { OnOk result (self.new ≡ (on_fields self.old moment (Ok fields.items)).machine) }
-        ensures turn { IfOk result (λ turn. turn ≡ (on_fields self.old moment (Ok fields.items)).turn) }
+    fn work_fields<'a>(&mut self, fields: Vec<Field<'a>>, moment: i64) -> Result<Turn<'a>, NoMemory>
+        ensures machine { OnOk result (self.new ≡ (on_fields self.old moment (Ok fields.entry.items)).machine) }
+        ensures turn { IfOk result (λ turn. turn ≡ (on_fields self.old moment (Ok fields.entry.items)).turn) }
         ensures up { IfOk result (λ turn. OnSome turn.request (IsUp self.new)) }
         ensures err { OnErr result (self.new ≡ self.old) }
     {
@@ -204,7 +204,7 @@ impl Session {
 
     /// What a frame does. Nothing changes where memory is wanted.
     #[tactic(auto, unfolding(crate::specs::Machine::on_frame))]
-    fn work_frame(&mut self, frame: &[u8], moment: i64) -> Result<Turn, NoMemory>
+    fn work_frame<'a>(&mut self, frame: &'a [u8], moment: i64) -> Result<Turn<'a>, NoMemory>
         requires { length frame.now ≤ MAX_FRAME_BYTES }
         ensures machine { OnOk result (self.new ≡ (on_frame self.old frame.now moment).machine) }
         ensures turn { IfOk result (λ turn. turn ≡ (on_frame self.old frame.now moment).turn) }
@@ -225,7 +225,7 @@ impl Session {
     /// Works a frame that was received at a moment, in milliseconds since 1970-01-01 00:00 UTC. The session is up
     /// where it hands a message out. Where memory is wanted the connection ends without a cause, and its replies are
     /// lost; the next connection can ask for what was kept before. A session that has ended wants none.
-    pub fn take(&mut self, frame: &[u8], moment: i64) -> Result<Turn, NoMemory>
+    pub fn take<'a>(&mut self, frame: &'a [u8], moment: i64) -> Result<Turn<'a>, NoMemory>
         requires { length frame.now ≤ MAX_FRAME_BYTES }
         ensures machine { OnOk result (self.new ≡ (on_frame self.old frame.now moment).machine) }
         ensures turn { IfOk result (λ turn. turn ≡ (on_frame self.old frame.now moment).turn) }
@@ -243,11 +243,11 @@ impl Session {
     }
 
     /// Carries out a plan that no message asked for. Where memory is wanted the connection ends.
-    fn carry_out_alone(
+    fn carry_out_alone<'a>(
         &mut self,
         moment: i64,
         plan: Result<Plan, NoMemory>,
-    ) -> Result<Turn, NoMemory>
+    ) -> Result<Turn<'a>, NoMemory>
         requires { IfOk plan HandsOutUp }
         ensures machine { OnOk result (IfOk plan (λ p. self.new ≡ (carried_out self.old moment [] p).machine)) }
         ensures turn { IfOk result (λ turn. IfOk plan (λ p. turn ≡ (carried_out self.old moment [] p).turn)) }
@@ -268,7 +268,7 @@ impl Session {
     }
 
     /// Ends a connection that has not ended.
-    fn end_too_long(&mut self, moment: i64) -> Result<Turn, NoMemory>
+    fn end_too_long<'a>(&mut self, moment: i64) -> Result<Turn<'a>, NoMemory>
         ensures machine { OnOk result (self.new ≡ (ends_too_long self.old moment).machine) }
         ensures turn { IfOk result (λ turn. turn ≡ (ends_too_long self.old moment).turn) }
         ensures err { OnErr result (self.new ≡ given_up self.old) }
@@ -280,7 +280,7 @@ impl Session {
     /// The next frame is too long: the connection ends. Where memory is wanted it ends without a cause. A session that
     /// has ended wants none.
     #[tactic(auto, unfolding(crate::specs::Machine::on_overlong))]
-    pub fn too_long(&mut self, moment: i64) -> Result<Turn, NoMemory>
+    pub fn too_long<'a>(&mut self, moment: i64) -> Result<Turn<'a>, NoMemory>
         ensures machine { OnOk result (self.new ≡ (on_overlong self.old moment).machine) }
         ensures turn { IfOk result (λ turn. turn ≡ (on_overlong self.old moment).turn) }
         ensures over { IsOver self.old → IsOk result }
@@ -293,7 +293,7 @@ impl Session {
     }
 
     /// What a tick does to a session that is up.
-    fn work_tick(&mut self, moment: i64) -> Result<Turn, NoMemory>
+    fn work_tick<'a>(&mut self, moment: i64) -> Result<Turn<'a>, NoMemory>
         ensures machine { OnOk result (self.new ≡ (ticks self.old moment).machine) }
         ensures turn { IfOk result (λ turn. turn ≡ (ticks self.old moment).turn) }
         ensures err { OnErr result (self.new ≡ given_up self.old) }
@@ -306,7 +306,7 @@ impl Session {
     /// after three heartbeat intervals of silence, a TestRequest after two, a Heartbeat where nothing was sent for one.
     /// Where memory is wanted the connection ends without a cause. A session that is not up wants none.
     #[tactic(auto, unfolding(crate::specs::Machine::on_clock))]
-    pub fn tick(&mut self, moment: i64) -> Result<Turn, NoMemory>
+    pub fn tick<'a>(&mut self, moment: i64) -> Result<Turn<'a>, NoMemory>
         ensures machine { OnOk result (self.new ≡ (on_clock self.old moment).machine) }
         ensures turn { IfOk result (λ turn. turn ≡ (on_clock self.old moment).turn) }
         ensures up { OnErr result (IsUp self.old) }

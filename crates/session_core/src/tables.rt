@@ -48,7 +48,7 @@ pub fn optional_of(kind: u8) -> &'static [Item]
 
 /// The first check of the session's own that a message of a type fails.
 #[tactic(auto, unfolding(crate::specs::Tables::failed_of))]
-pub fn failed_of(kind: u8, fields: &[Field]) -> Option<FailedCheck>
+pub fn failed_of(kind: u8, fields: &[Field<'_>]) -> Option<FailedCheck>
     ensures { result ≡ failed_of kind fields.now }
 {
     first_failed(required_of(kind), optional_of(kind), fields)

@@ -10,25 +10,24 @@ use venue_words::{Bytes, Items};
 
 /// What a turn gives.
 #[derive(Debug, Drop)]
-pub struct Turn {
+pub struct Turn<'a> {
     /// The frames to be sent, in their order.
     pub replies: Items<Bytes>,
     /// The message that is handed out, if any.
-    pub request: Option<Request>,
+    pub request: Option<Request<'a>>,
     /// Why the connection ended, where it has ended; also none where it ended for want of memory.
     pub ended: Option<EndCause>,
 }
 
 /// The request that a plan hands out, over the fields of the message.
-pub(crate) fn request_of(fields: Items<Field>, head: Option<RequestHead>) -> Option<Request>
-    ensures { result ≡ option_map (request_of fields) head }
+pub(crate) fn request_of(fields: Items<Field<'_>>, head: Option<RequestHead>) -> Option<Request<'_>>
+    ensures { result ≡ option_map (request_of fields.entry) head }
 {
     match head {
         Some(head) => Some(Request {
             number: head.number,
             kind: head.kind,
             fields,
-            failed: head.failed,
         }),
         None => None,
     }

@@ -1,12 +1,10 @@
 -- What the next frame of a stream makes of a session.
-use Rattle.std.specs.Prelude.{◌≡◌, ◌<◌, ℕ, ℤ, List, [], ◌∷◌, ◌++◌, length, Option, Some, None, OnSome}
+use Rattle.std.specs.Prelude.{◌≡◌, ◌<◌, ℕ, ℤ, List, [], ◌∷◌, ◌++◌, length}
 use Rattle.venue_words.specs.declared.limits.TheConstants.{MAX_FRAME_BYTES}
 use Rattle.fix_frames.specs.Reading.{none_yet, only_too_long, with_frames, reading_of}
 use Rattle.session_core.specs.declared.turn.Turn.{Turn}
-use Rattle.session_core.specs.Machine.{Machine, IsUp, on_frame, on_overlong}
+use Rattle.session_core.specs.Machine.{Machine, on_frame, on_overlong}
 use Rattle.session_stream.specs.Work.{Answerer, Work, work_of_frames}
-use Rattle.session_stream.specs.declared.hearing.Heard.{Heard}
-use Rattle.session_stream.specs.declared.hearing.Heard.TheVariants.{Frame, TooLong, Wait}
 
 -- of these bytes some frames were taken, and the others are unread: whatever follows, the stream goes on from these
 abbrev pub Reads : List ℕ → List (List ℕ) → List ℕ → Type 0
@@ -33,18 +31,6 @@ pub record Waits (old : Machine) (bytes : List ℕ) (new : Machine) (unread : Li
   pub none : reading_of unread ≡ none_yet
   pub few : length unread < MAX_FRAME_BYTES
   pub machine : new ≡ old
-
--- what came of the next frame of a stream with these bytes unread, for the session before and after it
-abbrev pub IsHeard : ℤ → Machine → List ℕ → Heard → Machine → List ℕ → Type 0
-IsHeard moment old bytes (Frame turn) new unread = TakesFrame moment old bytes turn new unread
-IsHeard moment old bytes (TooLong turn) new unread = Exceeds moment old bytes turn new
-IsHeard moment old bytes Wait new unread = Waits old bytes new unread
-
--- where it hands a message out, the session is up
-abbrev pub HandsOutUp : Heard → Machine → Type 0
-HandsOutUp (Frame turn) session = OnSome turn.request (IsUp session)
-HandsOutUp (TooLong turn) session = Unit {0}
-HandsOutUp Wait session = Unit {0}
 
 -- the frames of a stream that were taken made this work
 pub record IsUnderway (answerer : Answerer) (moment : ℤ) (first : Machine) (bytes : List ℕ) (work : Work) (unread : List ℕ) : Type 0 where

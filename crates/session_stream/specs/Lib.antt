@@ -1,3 +1,4 @@
+pub mod AnsweringLaws
 pub mod Hearing
 pub mod Laws
 pub mod Work

@@ -10,16 +10,14 @@ use venue_words::limits::MAX_FRAME_BYTES;
 use venue_words::{Command, Items};
 
 /// The message of these fields.
-fn message(alloc: Global, text: &[u8]) -> Result<Request, Fail> {
-    let bytes = fields_of(alloc, text)?;
+fn message(alloc: Global, bytes: &[u8]) -> Result<Request<'_>, Fail> {
     if bytes.len() > MAX_FRAME_BYTES {
         return Err(Fail::from("a long message"));
     }
     Ok(Request {
         number: 1,
         kind: b'W',
-        fields: Items(fields(alloc, &bytes)?),
-        failed: None,
+        fields: Items(fields(alloc, bytes)?),
     })
 }
 
@@ -47,7 +45,8 @@ fn the_first_fault_is_answered(rt: HostRuntime) -> Result<(), Fail> {
         (b"55=X|268=2|269=0|270=1|275=N|269=J|270=bad|", 1, 275),
     ];
     for (text, reason, tag) in cases {
-        let request = message(alloc, text)?;
+        let bytes = fields_of(alloc, text)?;
+        let request = message(alloc, &bytes)?;
         assert!(rt;
             matches!(
             &read_snapshot(alloc, &request, &config),
@@ -63,10 +62,11 @@ fn the_first_fault_is_answered(rt: HostRuntime) -> Result<(), Fail> {
 fn each_market_has_its_greatest_bid_and_its_least_offer(rt: HostRuntime) -> Result<(), Fail> {
     let alloc = rt.alloc();
     let (config, _) = read_header(alloc, CONFIG.as_bytes())?;
-    let request = message(
+    let bytes = fields_of(
         alloc,
         b"268=8|269=1|270=10.05|275=P|269=0|270=10.0|275=N|269=2|275=Z|269=0|270=10.02|275=N|275=P|269=0|270=9.99|270=bad|275=N|269=1|270=10.04|275=P|269=1|270=10.06|275=P|269=J|275=N|55=X|",
     )?;
+    let request = message(alloc, &bytes)?;
     let snapshot = match read_snapshot(alloc, &request, &config) {
         Ok(snapshot) => snapshot,
         Err(_) => return Err(Fail::from("refused")),

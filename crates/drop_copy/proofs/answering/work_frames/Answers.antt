@@ -1,85 +1,105 @@
 -- Each frame goes on; the work ends where there is no further frame, or where the next one is too long.
-use Rattle.std.proofs.Common.{◌≡◌, ◌++◌, ℤ, Result, Ok, Err, OnOk, refl, subst, w64, to_z, of_z, rules}
+use Rattle.std.proofs.Common.{◌≡◌, ◌++◌, ℤ, subst, w64, to_z, of_z, rules}
+use Rattle.fix_frames.specs.declared.framer.Next.{Next}
 use Rattle.fix_frames.specs.Reading.{reading_of}
-use Rattle.session_stream.specs.declared.hearing.Heard.{Heard}
-use Rattle.session_stream.specs.Hearing.{IsHeard}
+use Rattle.fix_frames.specs.Streams.{IsNext}
+use Rattle.session_stream.specs.AnsweringLaws.{given_short, given_shorter}
 use Rattle.session_stream.specs.Work.{work_of_reading}
 use Rattle.drop_copy.specs.Answering.{refuses}
-use Rattle.drop_copy.proofs.Frames.{going_none, going_more, gone_whole, gone_long}
+use Rattle.drop_copy.proofs.Frames.{going_none, going_frame, gone_waited, gone_exceeded}
 use Rattle.drop_copy.proofs.answering.work_frames.Goals as goal
-
-on_ok : {T E P : Type 0} (r : Result T E) → P → OnOk r P
-on_ok (Ok x) p = p
-on_ok (Err e) p = tt
-
-on_ok_by : {T E P Q : Type 0} (r : Result T E) → (P → Q) → OnOk r P → OnOk r Q
-on_ok_by (Ok x) f p = f p
-on_ok_by (Err e) f p = tt
 
 pub frames-init : goal.frames-init
 frames-init c = going_none _ c.args.session.now c.args.framer.now.kept c.args.replies.now.items
 
+pub work_frame-requires : goal.work_frame-requires
+work_frame-requires c =
+    let old = c.frames.framer in
+    let new = c.next.follows.lender-at-none in
+    given_short old new c.in-Frame.frame.now (subst (λ (r : Next). IsNext old r new) c.in-Frame.is c.next.follows.holds-at-none)
+
+pub frames-smaller : goal.frames-smaller
+frames-smaller c =
+    let old = c.frames.framer in
+    let new = c.next.follows.lender-at-none in
+    given_shorter old new c.in-Frame.frame.now (subst (λ (r : Next). IsNext old r new) c.in-Frame.is c.next.follows.holds-at-none)
+
 pub frames-preserved : goal.frames-preserved
 frames-preserved c =
     let m = to_z w64 (of_z w64 c.args.moment) in
-    let heard = subst (λ (h : Heard). IsHeard m c.frames.session c.frames.framer.kept h c.hear.new.session c.hear.new.framer.kept) c.in-Frame.is c.in_ok-turn.ensures.heard in
-    going_more m c.args.session.now c.args.framer.now.kept c.args.replies.now.items c.frames.replies.items c.work_turn.new.replies.items
-    c.frames.session c.hear.new.session c.work_turn.new.session c.frames.framer.kept c.hear.new.framer.kept c.in-Frame.turn
-    c.frames.invariant heard c.in_ok-work_turn.ensures.session c.in_ok-work_turn.ensures.replies
-
-pub returns-in-TooLong-clause-session : goal.returns-in-TooLong-clause-session
-returns-in-TooLong-clause-session c =
-    let m = to_z w64 (of_z w64 c.args.moment) in
-    let e : m ≡ c.args.moment = search rules in
-    let heard = subst (λ (h : Heard). IsHeard m c.frames.session c.frames.framer.kept h c.hear.new.session c.hear.new.framer.kept) c.in-TooLong.is c.in_ok-turn.ensures.heard in
-    let gone =
-    gone_long m c.args.session.now c.args.framer.now.kept c.args.replies.now.items c.frames.replies.items (c.frames.replies.items ++ c.in-TooLong.turn.replies)
-    c.frames.session c.hear.new.session c.frames.framer.kept c.hear.new.framer.kept c.in-TooLong.turn c.frames.invariant heard refl in
-    on_ok c.work_last.result (subst (λ (k : ℤ). c.hear.new.session ≡ (work_of_reading (refuses k) k c.args.session.now (reading_of c.args.framer.now.kept)).session) e gone.session_is)
-
-pub returns-in-TooLong-clause-replies : goal.returns-in-TooLong-clause-replies
-returns-in-TooLong-clause-replies c =
-    let m = to_z w64 (of_z w64 c.args.moment) in
-    let e : m ≡ c.args.moment = search rules in
-    let heard = subst (λ (h : Heard). IsHeard m c.frames.session c.frames.framer.kept h c.hear.new.session c.hear.new.framer.kept) c.in-TooLong.is c.in_ok-turn.ensures.heard in
-    let f = λ (r : c.work_last.new.replies.items ≡ c.frames.replies.items ++ c.in-TooLong.turn.replies).
-    subst (λ (k : ℤ). c.work_last.new.replies.items ≡ c.args.replies.now.items ++ (work_of_reading (refuses k) k c.args.session.now (reading_of c.args.framer.now.kept)).replies) e
-    (gone_long m c.args.session.now c.args.framer.now.kept c.args.replies.now.items c.frames.replies.items c.work_last.new.replies.items
-    c.frames.session c.hear.new.session c.frames.framer.kept c.hear.new.framer.kept c.in-TooLong.turn c.frames.invariant heard r).replies_are in
-    on_ok_by c.work_last.result f c.work_last.ensures
-
-pub returns-in-TooLong-clause-unread : goal.returns-in-TooLong-clause-unread
-returns-in-TooLong-clause-unread c =
-    let m = to_z w64 (of_z w64 c.args.moment) in
-    let heard = subst (λ (h : Heard). IsHeard m c.frames.session c.frames.framer.kept h c.hear.new.session c.hear.new.framer.kept) c.in-TooLong.is c.in_ok-turn.ensures.heard in
-    let gone =
-    gone_long m c.args.session.now c.args.framer.now.kept c.args.replies.now.items c.frames.replies.items (c.frames.replies.items ++ c.in-TooLong.turn.replies)
-    c.frames.session c.hear.new.session c.frames.framer.kept c.hear.new.framer.kept c.in-TooLong.turn c.frames.invariant heard refl in
-    on_ok c.work_last.result gone.unread_is
+    let old = c.frames.framer in
+    let new = c.next.follows.lender-at-none in
+    let done = c.in_ok-work_frame-in-Frame.ensures in
+    going_frame m c.args.session.now c.args.framer.now.kept c.args.replies.now.items c.frames.replies.items c.work_frame.new.replies.items
+    c.frames.session c.work_frame.new.session old new c.in-Frame.frame.now c.frames.invariant
+    (subst (λ (r : Next). IsNext old r new) c.in-Frame.is c.next.follows.holds-at-none) done.session done.replies
 
 pub returns-in-Wait-clause-session : goal.returns-in-Wait-clause-session
 returns-in-Wait-clause-session c =
     let m = to_z w64 (of_z w64 c.args.moment) in
     let e : m ≡ c.args.moment = search rules in
-    let heard = subst (λ (h : Heard). IsHeard m c.frames.session c.frames.framer.kept h c.hear.new.session c.hear.new.framer.kept) c.in-Wait.is c.in_ok-turn.ensures.heard in
+    let old = c.frames.framer in
+    let new = c.next.follows.lender-at-none in
     let gone =
-    gone_whole m c.args.session.now c.args.framer.now.kept c.args.replies.now.items c.frames.replies.items
-    c.frames.session c.hear.new.session c.frames.framer.kept c.hear.new.framer.kept c.frames.invariant heard in
-    subst (λ (k : ℤ). c.hear.new.session ≡ (work_of_reading (refuses k) k c.args.session.now (reading_of c.args.framer.now.kept)).session) e gone.session_is
+    gone_waited m c.args.session.now c.args.framer.now.kept c.args.replies.now.items c.frames.replies.items c.frames.session old new c.frames.invariant
+    (subst (λ (r : Next). IsNext old r new) c.in-Wait.is c.next.follows.holds-at-none) in
+    subst (λ (k : ℤ). c.frames.session ≡ (work_of_reading (refuses k) k c.args.session.now (reading_of c.args.framer.now.kept)).session) e gone.session_is
 
 pub returns-in-Wait-clause-replies : goal.returns-in-Wait-clause-replies
 returns-in-Wait-clause-replies c =
     let m = to_z w64 (of_z w64 c.args.moment) in
     let e : m ≡ c.args.moment = search rules in
-    let heard = subst (λ (h : Heard). IsHeard m c.frames.session c.frames.framer.kept h c.hear.new.session c.hear.new.framer.kept) c.in-Wait.is c.in_ok-turn.ensures.heard in
+    let old = c.frames.framer in
+    let new = c.next.follows.lender-at-none in
     let gone =
-    gone_whole m c.args.session.now c.args.framer.now.kept c.args.replies.now.items c.frames.replies.items
-    c.frames.session c.hear.new.session c.frames.framer.kept c.hear.new.framer.kept c.frames.invariant heard in
+    gone_waited m c.args.session.now c.args.framer.now.kept c.args.replies.now.items c.frames.replies.items c.frames.session old new c.frames.invariant
+    (subst (λ (r : Next). IsNext old r new) c.in-Wait.is c.next.follows.holds-at-none) in
     subst (λ (k : ℤ). c.frames.replies.items ≡ c.args.replies.now.items ++ (work_of_reading (refuses k) k c.args.session.now (reading_of c.args.framer.now.kept)).replies) e gone.replies_are
 
 pub returns-in-Wait-clause-unread : goal.returns-in-Wait-clause-unread
 returns-in-Wait-clause-unread c =
     let m = to_z w64 (of_z w64 c.args.moment) in
-    let heard = subst (λ (h : Heard). IsHeard m c.frames.session c.frames.framer.kept h c.hear.new.session c.hear.new.framer.kept) c.in-Wait.is c.in_ok-turn.ensures.heard in
-    (gone_whole m c.args.session.now c.args.framer.now.kept c.args.replies.now.items c.frames.replies.items
-    c.frames.session c.hear.new.session c.frames.framer.kept c.hear.new.framer.kept c.frames.invariant heard).unread_is
+    let old = c.frames.framer in
+    let new = c.next.follows.lender-at-none in
+    let gone =
+    gone_waited m c.args.session.now c.args.framer.now.kept c.args.replies.now.items c.frames.replies.items c.frames.session old new c.frames.invariant
+    (subst (λ (r : Next). IsNext old r new) c.in-Wait.is c.next.follows.holds-at-none) in
+    gone.unread_is
+
+pub returns-in-TooLong-clause-session : goal.returns-in-TooLong-clause-session
+returns-in-TooLong-clause-session c =
+    let m = to_z w64 (of_z w64 c.args.moment) in
+    let e : m ≡ c.args.moment = search rules in
+    let old = c.frames.framer in
+    let new = c.next.follows.lender-at-none in
+    let done = c.in_ok-end_too_long-in-TooLong.ensures in
+    let gone =
+    gone_exceeded m c.args.session.now c.args.framer.now.kept c.args.replies.now.items c.frames.replies.items c.end_too_long.new.replies.items
+    c.frames.session c.end_too_long.new.session old new c.frames.invariant
+    (subst (λ (r : Next). IsNext old r new) c.in-TooLong.is c.next.follows.holds-at-none) done.session done.replies in
+    subst (λ (k : ℤ). c.end_too_long.new.session ≡ (work_of_reading (refuses k) k c.args.session.now (reading_of c.args.framer.now.kept)).session) e gone.session_is
+
+pub returns-in-TooLong-clause-replies : goal.returns-in-TooLong-clause-replies
+returns-in-TooLong-clause-replies c =
+    let m = to_z w64 (of_z w64 c.args.moment) in
+    let e : m ≡ c.args.moment = search rules in
+    let old = c.frames.framer in
+    let new = c.next.follows.lender-at-none in
+    let done = c.in_ok-end_too_long-in-TooLong.ensures in
+    let gone =
+    gone_exceeded m c.args.session.now c.args.framer.now.kept c.args.replies.now.items c.frames.replies.items c.end_too_long.new.replies.items
+    c.frames.session c.end_too_long.new.session old new c.frames.invariant
+    (subst (λ (r : Next). IsNext old r new) c.in-TooLong.is c.next.follows.holds-at-none) done.session done.replies in
+    subst (λ (k : ℤ). c.end_too_long.new.replies.items ≡ c.args.replies.now.items ++ (work_of_reading (refuses k) k c.args.session.now (reading_of c.args.framer.now.kept)).replies) e gone.replies_are
+
+pub returns-in-TooLong-clause-unread : goal.returns-in-TooLong-clause-unread
+returns-in-TooLong-clause-unread c =
+    let m = to_z w64 (of_z w64 c.args.moment) in
+    let old = c.frames.framer in
+    let new = c.next.follows.lender-at-none in
+    let done = c.in_ok-end_too_long-in-TooLong.ensures in
+    let gone =
+    gone_exceeded m c.args.session.now c.args.framer.now.kept c.args.replies.now.items c.frames.replies.items c.end_too_long.new.replies.items
+    c.frames.session c.end_too_long.new.session old new c.frames.invariant
+    (subst (λ (r : Next). IsNext old r new) c.in-TooLong.is c.next.follows.holds-at-none) done.session done.replies in
+    gone.unread_is

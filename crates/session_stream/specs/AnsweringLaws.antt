@@ -17,7 +17,7 @@ given_short old new frame h =
     (whole_found (drop h.0 (old.kept ++ [])) (length frame) l.whole).1
 
 -- and leaves fewer bytes
-given_shorter : (old new : Stream) (frame : List ℕ) → HasGiven old new frame → length new.kept < length old.kept
+pub given_shorter : (old new : Stream) (frame : List ℕ) → HasGiven old new frame → length new.kept < length old.kept
 given_shorter old new frame h =
     let l = lies_in (old.kept ++ []) h.0 frame (h.2 []) in
     omega (arith, l.some, h.1.inside, ap length h.1.kept, length-drop (h.0 + length frame) old.kept)

@@ -1,0 +1,14 @@
+-- At most five digits so far, and their value.
+use Rattle.std.proofs.Common.{◌≡◌, ◌^◌, ◌<◌, ◌≤◌, true, take}
+use Rattle.std.specs.List.{list_all}
+use Rattle.std.specs.Char.{is_ascii_digit}
+use Rattle.std.specs.Str.Parse.{digits_value}
+use Rattle.fix_fields.proofs.splitting.tag_in_front.Given as goal
+
+abbrev pub invariant-loop-i : goal.invariant-loop-i
+invariant-loop-i l = record {
+  few : l.i ≤ 5;
+  digits : list_all is_ascii_digit (take l.i l.bytes) ≡ true;
+  value : l.tag ≡ digits_value 10 (take l.i l.bytes);
+  room : l.tag < 10 ^ l.i;
+}
