@@ -1,5 +1,5 @@
-//! Trials of the book: over peg groups and over plain rows beside the plain program of the market's rules, at its limit, and
-//! under load. All of it is tests.
+//! Trials of the book: beside a book over plain rows and the plain program of the market's rules, at its limit, under load, and
+//! blocked by minimums. All of it is tests.
 #![tactic(auto)]
 
 #[cfg(test)]

@@ -1,8 +1,7 @@
-//! The book against the plain program, at its limit, and under load.
+//! Tests of the book.
+mod blocked;
 mod comparing;
-mod days;
 mod limits;
 mod load;
+mod orders;
 mod random;
-mod script;
-mod uncounted;

@@ -1,3 +1,2 @@
 -- Lemmas on sides that tests fill.
-mod Alone
 mod Later

@@ -1,4 +1,5 @@
-//! Trials of matching: both forms of a side beside each other, and matching beside the plain program. All of it is tests.
+//! Trials of what matching stands on: move histories and the tree of a group beside plain lists, and both forms of a side. All of
+//! it is tests.
 #![tactic(auto)]
 
 #[cfg(test)]

@@ -1,7 +1,5 @@
 //! One module for each crate that is tried.
-mod best;
-mod matching;
-mod minimums;
 mod moves;
-mod pegs;
+mod random;
 mod sides;
+mod tree;

@@ -1,16 +1,19 @@
 //! Histories that look random and are the same in each run.
 ghost use Rattle.std.specs.Prelude.{◌<◌};
 
+use super::orders::SHARE;
 use std::alloc::{AllocError, Global};
 use venue_words::{Bytes, Command, Event, Terms};
 
-/// 100 shares as an amount, and one unit of price.
-const ROUND_LOT: i128 = 10_000_000_000;
-
+/// One unit of price.
 const UNIT: i128 = 500_000;
 
 /// What a random order is pegged to: mostly the midpoint, the own side or the other side, and now and then nothing known.
 const PEGS: [u32; 8] = [2, 4, 5, 2, 5, 5, 2, 9];
+
+fn amount_of(shares: u32) -> i128 {
+    i128::from(shares).wrapping_mul(SHARE)
+}
 
 /// Numbers that look random.
 #[derive(Drop)]
@@ -87,6 +90,24 @@ impl Random {
         self.some_below(3, 3)
     }
 
+    /// Whole lots, or tens of shares.
+    fn shares(&mut self) -> u32 {
+        if self.once_in(2) {
+            100 * self.below(6)
+        } else {
+            10 + 10 * self.below(30)
+        }
+    }
+
+    /// Whole lots, or a part of the shares, or mostly no minimum.
+    fn minimum(&mut self, shares: u32) -> Option<u32> {
+        match self.below(5) {
+            0 => Some(100 * self.below(4)),
+            1 => Some(shares / (1 + self.below(4))),
+            _ => None,
+        }
+    }
+
     fn peg(&mut self) -> Option<u32> {
         Some(PEGS[self.below(8) as usize])
     }
@@ -96,20 +117,20 @@ impl Random {
         let kind = self.byte(3, b'2', b'P');
         let price = self.amount(if kind == b'2' { 1 } else { 3 }, 12, 998, 2 * UNIT);
         let side = self.byte(2, b'1', b'2');
-        let quantity = self.amount(1, 6, 0, ROUND_LOT).unwrap_or(0);
+        let shares = self.shares();
         let force = self.force();
-        let minimum = self.amount(3, 4, 0, ROUND_LOT);
+        let minimum = self.minimum(shares);
         let method = self.method();
         let peg = self.peg();
         let offset = self.amount(3, 5, -2, UNIT);
         let round = self.some_below(4, 3);
         Terms {
             side,
-            quantity,
+            quantity: amount_of(shares),
             kind,
             price,
             force,
-            minimum,
+            minimum: minimum.map(amount_of),
             method,
             peg,
             offset,

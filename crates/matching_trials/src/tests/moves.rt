@@ -1,6 +1,7 @@
 //! The last change below a limit, on examples and beside a plain list of all moves.
-ghost use Rattle.std.specs.Prelude.{◌≡◌, ◌<◌};
+ghost use Rattle.std.specs.Prelude.{◌≡◌};
 
+use super::random::Random;
 use move_history::Moves;
 use std::alloc::Global;
 use std::marker::Brand;
@@ -8,22 +9,6 @@ use std::process::Abort;
 use std::sync::ledger::{Blank, Ledger};
 use std::test::Fail;
 use venue_words::{NoMemory, Steps};
-
-/// Numbers that look random and are the same in each run.
-#[derive(Drop)]
-struct Random(u64);
-
-impl Random {
-    fn below(&mut self, end: u32) -> u32
-        requires { 0 < end }
-    {
-        self.0 = self
-            .0
-            .wrapping_mul(6_364_136_223_846_793_005)
-            .wrapping_add(1_442_695_040_888_963_407);
-        u32::try_from(self.0 >> 33).unwrap_or(0) % end
-    }
-}
 
 /// The newest move whose value and the value before it differ once both are held at the cap.
 fn plain_changed(first: u32, moves: &[(u32, u32)], cap: u32) -> u32 {

@@ -1,9 +1,10 @@
-//! Both sides answer the same calls alike, and worked examples on both.
-ghost use Rattle.std.specs.Prelude.{◌≡◌, ◌+◌, ◌<◌, ◌^◌, negsuc, pos, ◌≤ℤ◌, length, IfOk, OnOk};
+//! Both forms of a side answer the same calls alike.
+ghost use Rattle.std.specs.Prelude.{◌≡◌, ◌+◌, ◌<◌, ◌^◌, negsuc, pos, ◌≤ℤ◌, IfOk, OnOk};
 ghost use Rattle.limit_tree.specs.Part.{IsLeaf};
 ghost use Rattle.venue_words.specs.Conditions.{IsKey, IsRow, IsTick};
 ghost use Rattle.peg_groups.specs.Side.{IsLaterThan, first_state};
 
+use super::random::Random;
 use limit_tree::{Node, fill, leaf};
 use peg_groups::{FlatSide, GroupSide, SideBook};
 use std::alloc::Global;
@@ -13,23 +14,6 @@ use std::sync::ledger::{Blank, Ledger};
 use std::test::Fail;
 use venue_words::{Best, Key, Method, NoMemory, PRICE_END, Reference, Rounding, Row, Side, Steps};
 
-/// Numbers that look random and are the same in each run.
-#[derive(Drop)]
-struct Random(u64);
-
-impl Random {
-    fn below(&mut self, end: u32) -> u32
-        requires { 0 < end }
-        ensures { result < end }
-    {
-        self.0 = self
-            .0
-            .wrapping_mul(6_364_136_223_846_793_005)
-            .wrapping_add(1_442_695_040_888_963_407);
-        u32::try_from(self.0 >> 33).unwrap_or(0) % end
-    }
-}
-
 /// What happens to a side at an event.
 #[derive(Clone, Copy, Debug)]
 enum Act {
@@ -37,8 +21,6 @@ enum Act {
     Quote(Option<u32>, Option<u32>),
     /// A row of a key with this number enters, with a limit.
     Put(u32, u32),
-    /// Nothing.
-    Wait,
 }
 
 /// What was found.
@@ -129,25 +111,6 @@ fn perform<S: SideBook, L: Ledger>(
             side.reserve(Some(row.key))?;
             side.put(node, steps);
         }
-        Act::Wait => {}
-    }
-    Ok(())
-}
-
-/// Does what happens at the events from 1 on.
-fn perform_all<S: SideBook, L: Ledger>(
-    side: &mut S,
-    alloc: Global,
-    acts: &[Act],
-    steps: &mut Steps<L>,
-) -> Result<(), NoMemory>
-    requires first { S.state side.old ≡ first_state }
-    requires few { length acts.now < 2 ^ 31 }
-{
-    let mut event = 1;
-    for act in acts {
-        perform(side, alloc, event, *act, steps)?;
-        event += 1;
     }
     Ok(())
 }
@@ -212,7 +175,7 @@ fn leave<S: SideBook, L: Ledger>(
             let node = side.cut(row.key, row.cap, entry, steps);
             node.map(|node| (node.entry, node.row.leaves))
         }
-        _ => None,
+        Act::Quote(..) => None,
     }
 }
 
@@ -228,7 +191,7 @@ fn seen<S: SideBook, L: Ledger>(
             let row = row(number, cap, entry);
             side.priced(row.key, row.cap, entry, steps)
         }
-        _ => None,
+        Act::Quote(..) => None,
     };
     let (value, time) = priced.unwrap_or((None, 0));
     Answer {
@@ -282,123 +245,36 @@ fn long_run<S: SideBook, L: Ledger>(
     Ok(answers)
 }
 
+fn by_groups<L: Ledger>(alloc: Global, steps: &mut Steps<L>) -> Result<Vec<Answer>, NoMemory> {
+    let mut side = GroupSide::new(alloc);
+    long_run(&mut side, alloc, steps)
+}
+
+fn by_rows<L: Ledger>(alloc: Global, steps: &mut Steps<L>) -> Result<Vec<Answer>, NoMemory> {
+    let mut side = FlatSide::new(alloc);
+    long_run(&mut side, alloc, steps)
+}
+
+fn compare(rt: &impl Abort, answers: &[Answer], others: &[Answer]) {
+    assert_eq!(rt; answers.len(), others.len());
+    for (number, (answer, other)) in answers.iter().zip(others.iter()).enumerate() {
+        assert_eq!(rt; answer, other, "at {number}");
+    }
+    let is_large = answers
+        .last()
+        .is_some_and(|answer| answer.rows > 100 && answer.keys > 5);
+    assert!(rt; is_large);
+}
+
 fn compare_sides<L: Ledger>(
     rt: &impl Abort,
     alloc: Global,
     steps: &mut Steps<L>,
 ) -> Result<(), NoMemory> {
-    let mut groups = GroupSide::new(alloc);
-    let mut flat = FlatSide::new(alloc);
-    let by_groups = long_run(&mut groups, alloc, steps)?;
-    let by_places = long_run(&mut flat, alloc, steps)?;
-    assert_eq!(rt; by_groups.len(), by_places.len());
-    for (number, (answer, other)) in by_groups.iter().zip(by_places.iter()).enumerate() {
-        assert_eq!(rt; answer, other, "at {number}");
-    }
-    assert!(rt; groups.len() > 100 && groups.groups() > 5);
+    let answers = by_groups(alloc, steps)?;
+    let others = by_rows(alloc, steps)?;
+    compare(rt, answers.as_slice(), others.as_slice());
     Ok(())
-}
-
-/// The value and time of the row of a key, a limit and an entry, on both sides.
-fn held<L: Ledger>(
-    rt: &impl Abort,
-    alloc: Global,
-    acts: &[Act],
-    row: Row,
-    want: (u32, u32),
-    steps: &mut Steps<L>,
-) -> Result<(), NoMemory>
-    requires { length acts.now < 2 ^ 31 }
-{
-    let mut groups = GroupSide::new(alloc);
-    perform_all(&mut groups, alloc, acts, steps)?;
-    let found = groups.priced(row.key, row.cap, row.entry, steps);
-    assert_eq!(rt; found, Some((Some(want.0), want.1)));
-    let mut flat = FlatSide::new(alloc);
-    perform_all(&mut flat, alloc, acts, steps)?;
-    let found = flat.priced(row.key, row.cap, row.entry, steps);
-    assert_eq!(rt; found, Some((Some(want.0), want.1)));
-    Ok(())
-}
-
-fn take<S: SideBook, L: Ledger>(side: &mut S, steps: &mut Steps<L>) -> Option<u32> {
-    side.take_best(steps).map(|taken| taken.node.entry)
-}
-
-/// The entries of the first rows, on both sides.
-fn order<L: Ledger>(
-    rt: &impl Abort,
-    alloc: Global,
-    acts: &[Act],
-    want: [Option<u32>; 4],
-    steps: &mut Steps<L>,
-) -> Result<(), NoMemory>
-    requires { length acts.now < 2 ^ 31 }
-{
-    let mut groups = GroupSide::new(alloc);
-    perform_all(&mut groups, alloc, acts, steps)?;
-    let mut flat = FlatSide::new(alloc);
-    perform_all(&mut flat, alloc, acts, steps)?;
-    for entry in want {
-        assert_eq!(rt; take(&mut groups, steps), entry);
-        assert_eq!(rt; take(&mut flat, steps), entry);
-    }
-    Ok(())
-}
-
-fn worked_examples<L: Ledger>(
-    rt: &impl Abort,
-    alloc: Global,
-    steps: &mut Steps<L>,
-) -> Result<(), NoMemory> {
-    // A price that goes away and comes back loses its time.
-    let away = [
-        Act::Quote(Some(1000), Some(1002)),
-        Act::Put(1, PRICE_END),
-        Act::Put(2, 2000),
-        Act::Quote(Some(999), Some(1002)),
-        Act::Quote(Some(1000), Some(1002)),
-    ];
-    held(rt, alloc, &away, row(1, PRICE_END, 2), (2000, 5), steps)?;
-    held(rt, alloc, &away, row(2, 2000, 3), (2000, 3), steps)?;
-    order(rt, alloc, &away, [Some(3), Some(2), None, None], steps)?;
-
-    // A quote that leaves a row at its limit leaves its time; a dip below the limit does not.
-    let dip = [
-        Act::Quote(Some(1000), Some(1002)),
-        Act::Put(0, 2000),
-        Act::Quote(Some(1001), Some(1003)),
-        Act::Wait,
-        Act::Quote(Some(999), Some(1000)),
-        Act::Wait,
-        Act::Quote(Some(1000), Some(1002)),
-    ];
-    held(rt, alloc, &dip[..4], row(0, 2000, 2), (2000, 2), steps)?;
-    held(rt, alloc, &dip[..6], row(0, 2000, 2), (1999, 5), steps)?;
-    held(rt, alloc, &dip, row(0, 2000, 2), (2000, 7), steps)?;
-
-    // No quote makes each row inactive, and the next one gives each a new time.
-    let outage = [
-        Act::Quote(Some(999), Some(1001)),
-        Act::Put(0, 2000),
-        Act::Quote(None, None),
-        Act::Quote(Some(999), Some(1001)),
-    ];
-    order(rt, alloc, &outage[..3], [None, None, None, None], steps)?;
-    held(rt, alloc, &outage, row(0, 2000, 2), (2000, 4), steps)?;
-
-    // Equal prices and times over three keys go by entry.
-    let tie = [
-        Act::Quote(Some(996), Some(1000)),
-        Act::Put(0, 1800),
-        Act::Put(3, PRICE_END),
-        Act::Put(2, 2004),
-        Act::Put(0, PRICE_END),
-        Act::Quote(Some(1000), Some(1004)),
-    ];
-    held(rt, alloc, &tie, row(3, PRICE_END, 3), (2004, 6), steps)?;
-    held(rt, alloc, &tie, row(2, 2004, 4), (2004, 6), steps)?;
-    order(rt, alloc, &tie, [Some(3), Some(4), Some(5), Some(2)], steps)
 }
 
 fn count_sides<L: Ledger>(rt: &impl Abort, alloc: Global, blank: Blank) -> Result<(), NoMemory>
@@ -410,23 +286,8 @@ fn count_sides<L: Ledger>(rt: &impl Abort, alloc: Global, blank: Blank) -> Resul
     compare_sides(rt, alloc, &mut steps)
 }
 
-fn count_examples<L: Ledger>(rt: &impl Abort, alloc: Global, blank: Blank) -> Result<(), NoMemory>
-    requires name { blank.name ≡ L.name }
-    requires parts { blank.parts ≡ L.parts }
-    requires one { blank.parts ≡ 1 }
-{
-    let mut steps = Steps::<L>::start(blank);
-    worked_examples(rt, alloc, &mut steps)
-}
-
 #[test]
 fn both_sides_answer_the_same_calls_alike(rt: HostRuntime) -> Result<(), Fail> {
     count_sides::<Brand>(&rt, rt.alloc(), Blank::new(1))?;
-    Ok(())
-}
-
-#[test]
-fn times_change_where_prices_do(rt: HostRuntime) -> Result<(), Fail> {
-    count_examples::<Brand>(&rt, rt.alloc(), Blank::new(1))?;
     Ok(())
 }

@@ -14,6 +14,3 @@ returns-in_ok-reserve-in-Put g c =
     let later = subst (λ (side : SideState). IsLaterThan side c.args.event) (sym c.in_ok-reserve-in-Put.ensures.state) c.requires in
     let entry : c.in_ok-node-in-Put.node.value.row.entry ≡ c.args.event = ap (λ (r : Row). r.entry) c.in_ok-node-in-Put.ensures.1 ∙ c.row-row.ensures.entry in
     rw c.put.ensures.state (later_with _ _ (c.args.event + 1) (omega arith) (later_more _ c.args.event (c.args.event + 1) (omega arith) later))
-
-pub returns-in-Wait : goal.returns-in-Wait
-returns-in-Wait g c = later_more _ c.args.event (c.args.event + 1) (omega arith) c.requires

@@ -1,4 +1,0 @@
-use Rattle.book_trials.proofs.tests.uncounted.UncountedNarrowSide.narrow.Given as goal
-
-abbrev pub ghosts-tidy_apart : goal.ghosts-tidy_apart
-ghosts-tidy_apart g a = record { name = a.blank.name; parts = a.blank.parts }

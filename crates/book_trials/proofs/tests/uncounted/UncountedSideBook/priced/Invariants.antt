@@ -1,4 +1,0 @@
-use Rattle.book_trials.proofs.tests.uncounted.UncountedSideBook.priced.Given as goal
-
-abbrev pub ghosts-priced_apart : goal.ghosts-priced_apart
-ghosts-priced_apart g a = record { name = a.blank.name; parts = a.blank.parts }

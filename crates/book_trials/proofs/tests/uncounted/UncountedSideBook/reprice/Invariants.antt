@@ -1,4 +1,0 @@
-use Rattle.book_trials.proofs.tests.uncounted.UncountedSideBook.reprice.Given as goal
-
-abbrev pub ghosts-reprice_apart : goal.ghosts-reprice_apart
-ghosts-reprice_apart g a = record { name = a.blank.name; parts = a.blank.parts }
