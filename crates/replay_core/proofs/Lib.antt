@@ -7,6 +7,9 @@ pub mod Turns
 pub mod Steps
 pub mod Outcomes
 pub mod Loads
+pub mod LoadFrames
+pub mod LoadTexts
+pub mod LoadTaken
 pub mod Summing
 pub mod Refusals
 pub mod Settings

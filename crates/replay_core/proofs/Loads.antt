@@ -16,19 +16,21 @@ use Rattle.std.proofs.lemmas.Bool.Decides.{nat_tests}
 use Rattle.venue_words.specs.declared.limits.TheConstants.{MAX_LINE_BYTES, MAX_SCRIPT_BYTES}
 use Rattle.replay_core.specs.Loading.{loaded, line_behind, summary, Loaded, LoadOutcome, LoadsTo}
 use Rattle.replay_core.specs.Phases.{IsAtStage}
+use Rattle.replay_core.specs.Plan.{most_load}
 use Rattle.replay_core.specs.Play.{Place, Stage, Head, Body, Played, Stepped, play, step_at, after_line, onto, start, end_at, end_of, finished, stopped}
 use Rattle.replay_core.specs.Playing.{Playing}
 use Rattle.replay_core.specs.Reading.{IsAtPlace, IsBehind, IsLineAt}
 use Rattle.replay_core.specs.Stages.{Kept, StandsFor}
-use Rattle.replay_core.specs.Statuses.{status_of}
+use Rattle.replay_core.specs.Statuses.{IsTold, status_of}
 use Rattle.replay_core.specs.Summary.{summary_of, summary_text}
 use Rattle.replay_core.specs.Telling.{seen}
 use Rattle.replay_core.specs.declared.phase.Phase.{Phase}
 use Rattle.replay_core.specs.declared.phase.Phase.TheVariants as phase
 use Rattle.replay_core.specs.declared.status.Status.{Status}
-use Rattle.replay_core.specs.declared.status.Status.TheVariants.{Done, BadLine, WriteFault, NoMemory}
+use Rattle.replay_core.specs.declared.status.Status.TheVariants.{Done, BadWords, BadLine, LimitLine, ReadFault, WriteFault, NoMemory}
 use Rattle.replay_core.proofs.Leading.{onto_nothing, onto_onto}
 use Rattle.replay_core.proofs.LineByLine.{worked_line, refused_line, either_steps}
+use Rattle.replay_core.proofs.LoadTaken.{load_whole}
 use Rattle.replay_core.proofs.Outcomes.{prefix_none}
 
 -- ---- the lines
@@ -188,13 +190,13 @@ at_end at all old new lines bytes now player x is =
     }
 
 told_summary : (orders quotes : ℕ) (old new : Option (List ℕ)) (line : List ℕ) (status : Status)
-    → ((status ≡ Done) ⊎ (status ≡ NoMemory)) ⊎ (status ≡ WriteFault) → line ≡ summary orders quotes → (loaded orders quotes).fault ≡ None
+    → ((status ≡ Done) ⊎ (status ≡ NoMemory)) ⊎ (status ≡ WriteFault) → line ≡ summary orders quotes
     → (status ≡ Done → Appends old new line) → ((status ≡ Done → ⊥) → AppendsPrefix old new line) → LoadOutcome orders quotes old new status
-told_summary orders quotes old new line status (inl (inl is)) e whole done early =
-    subst (LoadOutcome orders quotes old new) (sym is) (subst (Appends old new) e (done is), whole)
-told_summary orders quotes old new line status (inl (inr is)) e whole done early =
+told_summary orders quotes old new line status (inl (inl is)) e done early =
+    subst (LoadOutcome orders quotes old new) (sym is) (subst (Appends old new) e (done is))
+told_summary orders quotes old new line status (inl (inr is)) e done early =
     subst (LoadOutcome orders quotes old new) (sym is) (subst (AppendsPrefix old new) e (early (λ n. absurd (cc))))
-told_summary orders quotes old new line status (inr is) e whole done early =
+told_summary orders quotes old new line status (inr is) e done early =
     subst (LoadOutcome orders quotes old new) (sym is) (subst (AppendsPrefix old new) e (early (λ n. absurd (cc))))
 
 -- what was put of the line that sums a player up
@@ -210,34 +212,43 @@ loaded_body at orders quotes old new before after lines bytes now player status 
     let y = at_end at (loaded orders quotes) before after lines bytes now player x is in
     record {
       outcome = told_summary orders quotes old new (summary_text (summary_of y.playing)) status puts.ends
-          (ap line_behind (sym y.last)) y.whole (λ e. puts.done e y.playing y.stands) (λ e. puts.early e y.playing y.stands);
+          (ap line_behind (sym y.last)) (λ e. puts.done e y.playing y.stands) (λ e. puts.early e y.playing y.stands);
       steps = loads_within at (loaded orders quotes) [] before after lines bytes now x;
     }
 
-pub loaded_open : {F : Type 0} (at : F → ℕ → SymbolView) (orders quotes : ℕ) (told : Option (List ℕ)) (before after lines bytes : ℕ) (now : Phase F)
-    (line : ℕ) → LoadsTo at (loaded orders quotes) [] before after lines bytes now → ((player : Kept F) → now ≡ phase.Body player → ⊥)
-    → line ≡ lines + 1 → Loaded orders quotes (seen told before) (seen told after) (BadLine line NoEnd)
-loaded_open at orders quotes told before after lines bytes now line x unended e =
-    let here : line ≡ x.place.lines + 1 = e ∙ ap (λ (n : ℕ). n + 1) x.lines_are in
-    record {
-      outcome = (
-        refl,
-        ap (λ (p : Played). p.fault) (behind_lines at (loaded orders quotes) before after lines bytes now x
-            ∙ ap (onto x.text x.spent) (end_of_other at (x.place.lines + 1) now x.place.stage x.there unended))
-            ∙ ap (λ (n : ℕ). Some (fault.Bad n NoEnd)) (sym here),
-      );
-      steps = loads_within at (loaded orders quotes) [] before after lines bytes now x;
-    }
+-- the load script has a player at its end
+pub has_player : {F : Type 0} (at : F → ℕ → SymbolView) (orders quotes before after lines bytes : ℕ) (now : Phase F)
+    → LoadsTo at (loaded orders quotes) [] before after lines bytes now → ((player : Kept F) → now ≡ phase.Body player → ⊥)
+    → orders ≤ most_load → quotes ≤ most_load → ⊥
+has_player at orders quotes before after lines bytes now x unended few less =
+    let whole = load_whole orders quotes few less in
+    let stops : (loaded orders quotes).fault ≡ Some (fault.Bad (x.place.lines + 1) NoEnd) =
+    ap (λ (p : Played). p.fault) (behind_lines at (loaded orders quotes) before after lines bytes now x
+    ∙ ap (onto x.text x.spent) (end_of_other at (x.place.lines + 1) now x.place.stage x.there unended)) in
+    cc
 
-refused_outcome : (orders quotes : ℕ) (told : Option (List ℕ)) (why : LineFault) → (why ≡ fault.NoMemory) ⊎ ((loaded orders quotes).fault ≡ Some why)
-    → LoadOutcome orders quotes told told (status_of why)
-refused_outcome orders quotes told (fault.Bad line cause) (inl e) = absurd (cc)
-refused_outcome orders quotes told (fault.Bad line cause) (inr e) = (refl, e)
-refused_outcome orders quotes told (fault.Limit line which) (inl e) = absurd (cc)
-refused_outcome orders quotes told (fault.Limit line which) (inr e) = (refl, e)
-refused_outcome orders quotes told fault.NoMemory e = prefix_none told (summary orders quotes)
+-- none of its lines is refused
+pub only_memory : (orders quotes : ℕ) (why : LineFault) → (why ≡ fault.NoMemory) ⊎ ((loaded orders quotes).fault ≡ Some why)
+    → orders ≤ most_load → quotes ≤ most_load → why ≡ fault.NoMemory
+only_memory orders quotes why (inl none) few less = none
+only_memory orders quotes why (inr refused) few less = let whole = load_whole orders quotes few less in absurd (cc)
 
-pub loaded_refused : (orders quotes : ℕ) (told : Option (List ℕ)) (before after : ℕ) (why : LineFault)
-    → (why ≡ fault.NoMemory) ⊎ ((loaded orders quotes).fault ≡ Some why) → after ≤ before + (loaded orders quotes).steps
-    → Loaded orders quotes (seen told before) (seen told after) (status_of why)
-loaded_refused orders quotes told before after why e steps = record { outcome = refused_outcome orders quotes told why e; steps = steps }
+pub loaded_early : (orders quotes : ℕ) (told : Option (List ℕ)) (before after : ℕ) (why : LineFault) → why ≡ fault.NoMemory
+    → after ≤ before + (loaded orders quotes).steps → Loaded orders quotes (seen told before) (seen told after) (status_of why)
+loaded_early orders quotes told before after why e steps =
+    rw e (record { outcome = prefix_none told (summary orders quotes); steps = steps })
+
+-- where no write failed, the run is done or wanted memory
+pub load_ends : (orders quotes : ℕ) (old new told now : Option (List ℕ)) (before after : ℕ) (ended result : Status)
+    → LoadOutcome orders quotes old new ended → IsTold ended result told now before after → (result ≡ WriteFault → ⊥)
+    → (result ≡ Done) ⊎ (result ≡ NoMemory)
+load_ends orders quotes old new told now before after Done result o (inl t) w = inl t.0
+load_ends orders quotes old new told now before after Done result o (inr t) w = inl t.0
+load_ends orders quotes old new told now before after NoMemory result o (inl t) w = inr t.0
+load_ends orders quotes old new told now before after NoMemory result o (inr t) w = inr t.0
+load_ends orders quotes old new told now before after WriteFault result o (inl t) w = absurd (w t.0)
+load_ends orders quotes old new told now before after WriteFault result o (inr t) w = absurd (w t.0)
+load_ends orders quotes old new told now before after BadWords result o t w = absurd o
+load_ends orders quotes old new told now before after (BadLine line cause) result o t w = absurd o
+load_ends orders quotes old new told now before after (LimitLine line which) result o t w = absurd o
+load_ends orders quotes old new told now before after ReadFault result o t w = absurd o

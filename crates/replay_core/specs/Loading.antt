@@ -4,7 +4,7 @@ use Rattle.std.specs.Io.KnownBytes.{Appends}
 use Rattle.io_edge.specs.Grows.{AppendsPrefix}
 use Rattle.venue_words.specs.Floors.{SymbolView}
 use Rattle.script_text.specs.Load.{load_lines}
-use Rattle.script_text.specs.declared.fault.LineFault.TheVariants as fault
+use Rattle.replay_core.specs.Plan.{most_load}
 use Rattle.replay_core.specs.Play.{Place, Played, play, onto, start}
 use Rattle.replay_core.specs.Playing.{Playing}
 use Rattle.replay_core.specs.Reading.{IsAtPlace}
@@ -12,7 +12,7 @@ use Rattle.replay_core.specs.Summary.{summary_of, summary_text}
 use Rattle.replay_core.specs.Telling.{Seen}
 use Rattle.replay_core.specs.declared.phase.Phase.{Phase}
 use Rattle.replay_core.specs.declared.status.Status.{Status}
-use Rattle.replay_core.specs.declared.status.Status.TheVariants.{Done, BadWords, BadLine, LimitLine, ReadFault, WriteFault, NoMemory}
+use Rattle.replay_core.specs.declared.status.Status.TheVariants.{Done, WriteFault, NoMemory}
 
 -- what the load script makes
 unfoldable pub loaded : ℕ → ℕ → Played
@@ -22,21 +22,20 @@ abbrev pub line_behind : Option Playing → List ℕ
 line_behind None = []
 line_behind (Some playing) = summary_text (summary_of playing)
 
--- the one line of a load run, where the load script comes to its end
+-- the one line of a load run
 abbrev pub summary : ℕ → ℕ → List ℕ
 summary orders quotes = line_behind (loaded orders quotes).last
 
--- what the load script says of the status, and of what was told
+-- the load script is played to its end
+abbrev pub LoadNeverFaults : Type 0
+LoadNeverFaults = (orders quotes : ℕ) → orders ≤ most_load → quotes ≤ most_load → (loaded orders quotes).fault ≡ None
+
+-- what a status of a load run says of what was told: the whole line, or a beginning of it; no other status comes
 abbrev pub LoadOutcome : ℕ → ℕ → Option (List ℕ) → Option (List ℕ) → Status → Type 0
-LoadOutcome orders quotes old new Done = Appends old new (summary orders quotes) × ((loaded orders quotes).fault ≡ None)
-LoadOutcome orders quotes old new (BadLine line cause) =
-    (new ≡ old) × ((loaded orders quotes).fault ≡ Some (fault.Bad line cause))
-LoadOutcome orders quotes old new (LimitLine line which) =
-    (new ≡ old) × ((loaded orders quotes).fault ≡ Some (fault.Limit line which))
+LoadOutcome orders quotes old new Done = Appends old new (summary orders quotes)
 LoadOutcome orders quotes old new WriteFault = AppendsPrefix old new (summary orders quotes)
 LoadOutcome orders quotes old new NoMemory = AppendsPrefix old new (summary orders quotes)
-LoadOutcome orders quotes old new ReadFault = ⊥
-LoadOutcome orders quotes old new BadWords = ⊥
+LoadOutcome orders quotes old new _ = ⊥
 
 -- the same, and no more steps were counted than the load script's events may take
 pub record Loaded (orders quotes : ℕ) (old new : Seen) (status : Status) : Type 0 where

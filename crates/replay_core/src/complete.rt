@@ -3,7 +3,6 @@ ghost use Rattle.std.specs.Prelude.{◌≡◌, ◌≢◌, ◌⊎◌, ℕ, None, 
 ghost use Rattle.venue_words.specs.Causes.{Rose};
 ghost use Rattle.program_words.specs.Words.{texts};
 ghost use Rattle.replay_core.specs.Causes.{script_told};
-ghost use Rattle.replay_core.specs.Loading.{loaded};
 ghost use Rattle.replay_core.specs.Plan.{Load, plan_of};
 ghost use Rattle.replay_core.specs.Play.{script};
 
@@ -14,7 +13,7 @@ use std::alloc::Global;
 use std::sync::ledger::Ledger;
 use venue_words::Steps;
 
-/// A whole script, or a load run, is played to its end where no count of faults rises, but for want of memory.
+/// A whole script, and a load run, is played to its end where no count of faults rises, but for want of memory.
 pub fn replay_whole<H: Shelf, K: Sink, E: Sink, L: Ledger>(
     alloc: Global,
     words: &[String],
@@ -29,7 +28,7 @@ pub fn replay_whole<H: Shelf, K: Sink, E: Sink, L: Ledger>(
         (script bytes).fault ≡ None → (result ≡ Status.Done) ⊎ (result ≡ Status.NoMemory)) }
     ensures load { (Rose (K.faults out.old) (K.faults out.new) → ⊥) → (Rose (E.faults err.old) (E.faults err.new) → ⊥) →
         (orders quotes : ℕ) → plan_of (texts words.now) ≡ Some (Load orders quotes) →
-        (loaded orders quotes).fault ≡ None → (result ≡ Status.Done) ⊎ (result ≡ Status.NoMemory) }
+        (result ≡ Status.Done) ⊎ (result ≡ Status.NoMemory) }
 {
     replay(alloc, words, shelf, out, err, steps)
 }
@@ -46,7 +45,7 @@ pub fn replay_surely<L: Ledger>(
     ensures script { IfSome (script_told (⟦<SureShelf as Shelf>⟧.told shelf.old) (texts words.now)) (λ bytes.
         (script bytes).fault ≡ None → (result ≡ Status.Done) ⊎ (result ≡ Status.NoMemory)) }
     ensures load { (orders quotes : ℕ) → plan_of (texts words.now) ≡ Some (Load orders quotes) →
-        (loaded orders quotes).fault ≡ None → (result ≡ Status.Done) ⊎ (result ≡ Status.NoMemory) }
+        (result ≡ Status.Done) ⊎ (result ≡ Status.NoMemory) }
 {
     replay(alloc, words, shelf, out, err, steps)
 }

@@ -1,5 +1,6 @@
-//! Laws of what a script records. Each is the contract of a function that does nothing.
+//! Laws of what a script records, and of the load script. Each is the contract of a function that does nothing.
 ghost use Rattle.replay_core.specs.Histories.{LinesRecordCommands, BodiesRecordCommands, ScriptsRecordCommands};
+ghost use Rattle.replay_core.specs.Loading.{LoadNeverFaults};
 
 /// Behind any lines that were taken of a body, the journals hold exactly the commands of those lines, each once and in its order.
 // Rules out a command that is recorded twice, for another symbol, out of turn or at another moment, and a session that takes
@@ -16,4 +17,10 @@ pub fn bodies_record_commands()
 /// The same of a whole script, whose header is read first.
 pub fn scripts_record_commands()
     ensures { ScriptsRecordCommands }
+{}
+
+/// Each line of the load script is taken, whatever its counts of orders and quotes up to their greatest ones: it has a whole
+/// header, no line is bad or passes a limit, and it ends behind its last line.
+pub fn load_never_faults()
+    ensures { LoadNeverFaults }
 {}

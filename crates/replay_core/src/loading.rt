@@ -1,5 +1,5 @@
 //! The load script, played from its own lines, and summed up.
-ghost use Rattle.std.specs.Prelude.{◌≡◌, ◌≢◌, ◌≤◌, ◌+◌, ◌⊎◌, ℕ, [], Some, IfOk, IfErr};
+ghost use Rattle.std.specs.Prelude.{◌≡◌, ◌≢◌, ◌≤◌, ◌+◌, ◌⊎◌, ℕ, [], IfOk, IfErr};
 ghost use Rattle.std.specs.Io.KnownBytes.{Appends};
 ghost use Rattle.io_edge.specs.Grows.{AppendsPrefix};
 ghost use Rattle.venue_words.specs.Causes.{Rose};
@@ -17,12 +17,12 @@ use crate::plain_floor::PlainFloor;
 use crate::player::Player;
 use crate::status::{Status, status_of};
 use io_edge::Sink;
-use script_text::{Header, LineCause, LineFault, load_line};
+use script_text::{Header, LineFault, load_line};
 use std::alloc::Global;
 use std::sync::ledger::Ledger;
 use venue_words::Steps;
 
-/// Plays all lines of the load script. Their output is dropped.
+/// Plays all lines of the load script, none of which is refused. Their output is dropped.
 fn play_lines<F: PlainFloor, L: Ledger>(
     alloc: Global,
     orders: u32,
@@ -33,7 +33,7 @@ fn play_lines<F: PlainFloor, L: Ledger>(
     requires quotes { quotes ≤ most_load }
     ensures ok { IfOk result (λ phase. (bytes : ℕ) ×
         LoadsTo F.at (loaded orders quotes) [] steps.old steps.new (orders + quotes + 8) bytes phase) }
-    ensures err { IfErr result (λ fault. (fault ≡ memory) ⊎ ((loaded orders quotes).fault ≡ Some fault)) }
+    ensures err { IfErr result (λ fault. fault ≡ memory) }
     ensures steps { steps.new ≤ steps.old + (loaded orders quotes).steps }
 {
     let mut phase = Phase::Head(Header::new(alloc));
@@ -93,9 +93,6 @@ pub fn play_load<F: PlainFloor, K: Sink, L: Ledger>(
     };
     match &phase {
         Phase::Body(player) => put_summary(alloc, player, out),
-        _ => Status::BadLine {
-            line: orders + quotes + 9,
-            cause: LineCause::NoEnd,
-        },
+        _ => unreachable!(),
     }
 }

@@ -3,7 +3,7 @@ use Rattle.std.proofs.lemmas.Bool.Decides.{nat_tests}
 use Rattle.venue_words.specs.declared.limits.TheConstants.{MAX_SCRIPT_BYTES}
 use Rattle.script_text.specs.Load.{load_lines}
 use Rattle.replay_core.specs.Loading.{loaded, LoadsTo}
-use Rattle.replay_core.proofs.Loads.{line_count, no_more, loads_first, loads_on, loads_fault, loads_stopped, line_stands, long_unworked}
+use Rattle.replay_core.proofs.Loads.{line_count, no_more, loads_first, loads_on, loads_fault, loads_stopped, line_stands, long_unworked, only_memory}
 use Rattle.replay_core.proofs.loading.play_lines.Goals as goal
 
 pub loop-done-init : goal.loop-done-init
@@ -47,9 +47,10 @@ returns-in-Err-clause-err g c =
     let part : c.as_slice.result.now ≡ get_or lines c.loop-done.done [] =
     c.as_slice.ensures.value ∙ c.in_ok-line.ensures ∙ ap (λ (n : ℕ). get_or lines n []) same in
     let goes = c.loop-done.invariant.goes in
-    rw c.in-Err.ensures.err.0 (loads_fault g.F.Floor.at (loaded c.args.orders c.args.quotes) lines c.loop-done.done c.loop-done.bytes c.args.steps.now
+    rw c.in-Err.ensures.err.0 (only_memory c.args.orders c.args.quotes _ (loads_fault g.F.Floor.at (loaded c.args.orders c.args.quotes) lines c.loop-done.done c.loop-done.bytes c.args.steps.now
     c.loop-done.steps c.loop-done.steps c.loop-done.phase c.as_slice.result.now _ goes inside part
     (long_unworked g.F.Floor.at _ _ _ _ _ _ c.loop-done.phase (c.loop-done.done + 1) _ goes refl c.in-Err.ensures.err.1))
+    c.requires.orders c.requires.quotes)
 
 pub returns-in-Err-work_line-clause-err : goal.returns-in-Err-work_line-clause-err
 returns-in-Err-work_line-clause-err g c =
@@ -63,12 +64,12 @@ returns-in-Err-work_line-clause-err g c =
     c.in-Ok.ensures.ok.3 ∙ ap (λ (t : List ℕ). nat_lt MAX_SCRIPT_BYTES (c.loop-done.bytes + length t + 1)) (sym c.in-Ok.ensures.ok.1) in
     let goes = c.loop-done.invariant.goes in
     let line = line_stands g.F.Floor.at _ _ _ _ _ _ c.loop-done.phase _ _ _ goes c.in-Ok.ensures.ok.0 over in
-    loads_fault g.F.Floor.at (loaded c.args.orders c.args.quotes) lines c.loop-done.done c.loop-done.bytes c.args.steps.now
+    only_memory c.args.orders c.args.quotes _ (loads_fault g.F.Floor.at (loaded c.args.orders c.args.quotes) lines c.loop-done.done c.loop-done.bytes c.args.steps.now
     c.loop-done.steps c.work_line.new.steps c.loop-done.phase c.in-Ok.line.text.now c.in-Err-work_line.fault goes inside part
     (record {
       answer = c.in-Err-work_line.ensures.answer goes.place goes.there line;
       steps = c.in-Err-work_line.ensures.steps goes.place goes.there line;
-    })
+    })) c.requires.orders c.requires.quotes
 
 pub returns-in-Err-work_line-clause-steps : goal.returns-in-Err-work_line-clause-steps
 returns-in-Err-work_line-clause-steps g c =

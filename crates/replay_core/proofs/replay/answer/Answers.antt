@@ -1,4 +1,4 @@
-use Rattle.std.proofs.Common.{Err, sym, ◌∙◌, ap, subst}
+use Rattle.std.proofs.Common.{Err, sym, ap, subst}
 use Rattle.program_words.specs.Words.{texts}
 use Rattle.replay_core.specs.Plan.{form_of}
 use Rattle.replay_core.specs.Runs.{Ends}

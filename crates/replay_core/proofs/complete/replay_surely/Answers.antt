@@ -1,0 +1,13 @@
+use Rattle.std.proofs.Common.{◌+◌, ◌-◌, ◌^◌, ◌≤◌, min, None, ⊎_elim, arith}
+use Rattle.venue_words.specs.Causes.{Rose}
+use Rattle.replay_core.proofs.Loads.{load_ends}
+use Rattle.replay_core.proofs.complete.replay_surely.Goals as goal
+
+never : Rose 0 0 → ⊥
+never r = let above : min (0 + 1) (2 ^ 64 - 1) ≤ 0 = r in omega arith
+
+pub returns-clause-load : goal.returns-clause-load
+returns-clause-load g c orders quotes plan =
+    let run = c.replay.ensures.run in
+    load_ends orders quotes None None None None 0 0 run.0 c.replay.result (run.1.load orders quotes plan).outcome run.2
+    (λ is. ⊎_elim never never (c.replay.ensures.write is))
