@@ -1,20 +1,15 @@
 -- What is known of a seat between two calls.
-use Rattle.std.proofs.Common.{◌≡◌, ℕ, ◌≤◌, List, [], ◌∷◌, length, sym, ap, ◌∙◌, subst, arith, cond}
+use Rattle.std.proofs.Common.{◌≡◌, ℕ, List, [], ◌∷◌, sym, ap, ◌∙◌, subst}
 use Rattle.atomic_table.specs.Seated.{TableId}
 use Rattle.atomic_table.specs.Table.{rest}
 use Rattle.turn_gate.specs.declared.view.SeatView.{SeatView}
-use Rattle.turn_gate.specs.Steps.{joined_seat}
 use Rattle.turn_gate.specs.Seats.{IsAtRest, IsOneSeat, SeatState, seat_state, seat_state_in}
-use Rattle.turn_gate.proofs.Merges.{lt_cases}
 
 pub at_rest : (seats : List SeatView) (seat : SeatView) → IsOneSeat seats → seats ≡ seat ∷ [] → IsAtRest seat
 at_rest seats seat one is = let same : one.seat ≡ seat = (let a = one.only in cc) in subst IsAtRest same one.at_rest
 
 pub state_is : (table : TableId) (seats : List SeatView) (seat : SeatView) (state : SeatState) → seat_state_in table seats ≡ state → seats ≡ seat ∷ [] → seat_state table seat ≡ state
 state_is table seats seat state is only = sym (ap (seat_state_in table) only) ∙ is
-
-pub told_shorter : (seat other : SeatView) → length (joined_seat seat other).told ≤ length (joined_seat seat other).seen
-told_shorter seat other = lt_cases (length seat.seen) (length other.seen) (λ b. length (cond b seat.seen other.seen) ≤ length (cond b other.seen seat.seen)) (λ lt. omega arith) (λ le. le)
 
 -- what is in front of a list of one slot
 pub front : {A : Type 0} (xs : List (ℕ × A)) (x : ℕ × A) → xs ≡ x ∷ [] → xs ≡ x ∷ rest xs

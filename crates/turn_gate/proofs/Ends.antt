@@ -29,6 +29,7 @@ module _ {V : Type 0} (journal : V → List Event) (limit setting : V → ℕ) (
         seen = ([], refl);
         told = ([], refl);
         mine = (omega arith);
+        last = omega arith;
         ticket = λ t is. let e : 0 ≡ t = (cc) in (omega arith, omega arith);
         turn = λ known is. ((cc), refl);
       } in record {
@@ -41,6 +42,7 @@ module _ {V : Type 0} (journal : V → List Event) (limit setting : V → ℕ) (
         room = omega arith;
         seats = only (Agrees journal limit setting made 1 0 []) first own;
         tickets = λ i j t seat other at at' is is'. only_at first i seat at ∙ sym (only_at first j other at');
+        looks = λ i j seat other at at' none some le. only (λ u. StartsWith other.seen u.seen) first (other.seen, refl) i seat at;
         value = inr record { holder = 0; seat = first; history = []; at = refl; has_turn = refl; slot = refl };
         parts = omega arith;
         turns = omega arith;

@@ -9,9 +9,9 @@ use Rattle.atomic_table.specs.Table.{State, keeps, stepped}
 use Rattle.atomic_table.proofs.Lists.{set_here, set_else}
 use Rattle.venue_words.specs.declared.command.Event.{Event}
 use Rattle.turn_gate.specs.declared.view.SeatView.{SeatView}
-use Rattle.turn_gate.specs.Rule.{AgreesWith, EachNumberOnce, IsHome, IsOut, KeepsOneHistory}
+use Rattle.turn_gate.specs.Rule.{AgreesWith, HaveSeenInOrder, EachNumberOnce, IsHome, IsOut, KeepsOneHistory}
 use Rattle.turn_gate.proofs.Sums.{sum_set, inside}
-use Rattle.turn_gate.proofs.OneSeat.{each_set, HasOwnTicket, own_as_before, different_set, once_set}
+use Rattle.turn_gate.proofs.OneSeat.{each_set, HasOwnTicket, own_as_before, different_set, order_as_before, once_set}
 
 module _ {V : Type 0} (journal : V → List Event) (limit setting : V → ℕ) (made : V) where
   abbrev pub Rule : State (Option V) SeatView → Type 0
@@ -59,11 +59,11 @@ module _ {V : Type 0} (journal : V → List Event) (limit setting : V → ℕ) (
       → (words : List ℕ) (homes : List (maybe.Option (Option V))) (next serving : ℕ) (history : List Event)
       → words ≡ next ∷ serving ∷ length history ∷ [] → serving ≤ next → next < 2 ^ 64 → length history ≤ limit made
       → Agrees next serving history new → ((j : ℕ) (other : SeatView) → j ≢ id → get_elem? s.views j ≡ maybe.some other → Agrees next serving history other)
-      → HasOwnTicket s.views id new → Home homes (set s.views id new) history ⊎ IsOut homes (set s.views id new)
+      → HasOwnTicket s.views id new → HaveSeenInOrder (set s.views id new) → Home homes (set s.views id new) history ⊎ IsOut homes (set s.views id new)
       → new.part ≡ old.part → r.serving + (new.turns + new.joined_turns) ≡ serving + (old.turns + old.joined_turns)
       → EachNumberOnce (set s.views id new) (length history)
       → Rule record { words = words; homes = homes; views = set s.views id new }
-  moved s r id old new at words homes next serving history is order fits room own others ticket value part turns numbers = record {
+  moved s r id old new at words homes next serving history is order fits room own others ticket looks value part turns numbers = record {
     next = next;
     serving = serving;
     history = history;
@@ -73,6 +73,7 @@ module _ {V : Type 0} (journal : V → List Event) (limit setting : V → ℕ) (
     room = room;
     seats = each_set (Agrees next serving history) s.views id new own others;
     tickets = different_set s.views id new r.tickets ticket;
+    looks = looks;
     value = value;
     parts = (let e = sum_set (λ u. u.part) s.views id old new at in let p = r.parts in omega arith);
     turns = (let e = sum_set (λ u. u.turns + u.joined_turns) s.views id old new at in let p = r.turns in omega arith);
@@ -112,9 +113,10 @@ module _ {V : Type 0} (journal : V → List Event) (limit setting : V → ℕ) (
       r.value
 
   -- the rule after a step that changes neither a word nor the seat's view
-  pub unmoved : (s : State (Option V) SeatView) (r : Rule s) (id word : ℕ) (seat : SeatView) (taken : List (ℕ × Option V)) → get_elem? s.views id ≡ maybe.some seat
+  pub unmoved : (s : State (Option V) SeatView) (r : Rule s) (id word : ℕ) (seat : SeatView) (taken : List (ℕ × Option V)) → get_elem? s.views id ≡ maybe.some seat → 0 < seat.part
       → Rule (stepped s word (get_or s.words word 0) id taken seat keeps)
-  unmoved s r id word seat taken at =
+  unmoved s r id word seat taken at part =
       moved s r id seat seat at (set s.words word (get_or s.words word 0)) s.homes r.next r.serving r.history (set-get_or s.words word 0 ∙ r.words) r.order r.fits r.room
-      (r.seats id seat at) (λ j other _. r.seats j other) (own_as_before s.views id seat seat r.tickets at refl) (value_stays s r id seat seat at refl refl)
+      (r.seats id seat at) (λ j other _. r.seats j other) (own_as_before s.views id seat seat r.tickets at refl)
+      (order_as_before s.views id seat seat r.looks at refl refl part (λ none. none)) (value_stays s r id seat seat at refl refl)
       refl refl (once_set s.views id (length r.history) seat seat at refl r.numbers)

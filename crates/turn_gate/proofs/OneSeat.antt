@@ -1,15 +1,16 @@
 -- What stays said of a seat while another one takes a step, and what one seat's step does to tickets and numbers.
-use Rattle.std.proofs.Common.{◌≡◌, ℕ, zero, suc, ◌+◌, ◌≤◌, ◌≢◌, ⊎_elim, List, [], ◌∷◌, ◌++◌, set, sym, refl, ap, ◌∙◌, subst, arith, Option, None, Some}
+use Rattle.std.proofs.Common.{◌≡◌, ℕ, zero, suc, ◌+◌, ◌<◌, ◌≤◌, ◌≢◌, ⊎_elim, List, [], ◌∷◌, ◌++◌, set, sym, refl, ap, ◌∙◌, subst, arith, Option, None, Some}
 use mathlib.Core.Option as maybe
 use mathlib.Core.Logic.{dite}
 use native.Mathlib.Decide.{ℕ_discrete}
 use lib.ListN.{get_elem?}
-use Rattle.atomic_table.proofs.Lists.{at_set}
+use Rattle.atomic_table.proofs.Lists.{at_set, at_snoc}
 use Rattle.venue_words.specs.declared.command.Event.{Event}
 use Rattle.turn_gate.specs.declared.view.SeatView.{SeatView}
 use Rattle.turn_gate.specs.Numbers.{times}
-use Rattle.turn_gate.specs.Rule.{AgreesWith, HaveDifferentTickets, EachNumberOnce}
-use Rattle.turn_gate.proofs.Prefixes.{starts_more}
+use Rattle.venue_words.specs.Journals.{StartsWith}
+use Rattle.turn_gate.specs.Rule.{AgreesWith, HaveDifferentTickets, HaveSeenInOrder, EachNumberOnce}
+use Rattle.turn_gate.proofs.Prefixes.{starts_more, starts_whole}
 use Rattle.turn_gate.proofs.Sums.{sum_set}
 use Rattle.turn_gate.proofs.Merges.{times_same, times_other, times_append}
 
@@ -62,6 +63,64 @@ different_set seats id new different own i j ticket seat other at at' is is' =
     (at_set seats id j new other at'))
     (at_set seats id i new seat at)
 
+-- ---- what was seen in which order
+
+pub order_set : (seats : List SeatView) (id : ℕ) (new : SeatView) → HaveSeenInOrder seats
+    → ((j : ℕ) (other : SeatView) → j ≢ id → get_elem? seats j ≡ maybe.some other → other.history ≡ None → 0 < new.part
+    → other.last_turn ≤ new.last_turn → StartsWith new.seen other.seen)
+    → ((j : ℕ) (other : SeatView) → j ≢ id → get_elem? seats j ≡ maybe.some other → new.history ≡ None → 0 < other.part
+    → new.last_turn ≤ other.last_turn → StartsWith other.seen new.seen)
+    → HaveSeenInOrder (set seats id new)
+order_set seats id new order before behind i j seat other at at' idle some le =
+    ⊎_elim (λ (a : (i ≡ id) × (new ≡ seat)).
+    let first : new.last_turn ≡ seat.last_turn = ap (λ (z : SeatView). z.last_turn) a.1 in
+    ⊎_elim (λ (b : (j ≡ id) × (new ≡ other)). subst (λ (z : SeatView). StartsWith z.seen seat.seen) (sym a.1 ∙ b.1) (starts_whole seat.seen))
+    (λ (b : (j ≢ id) × (get_elem? seats j ≡ maybe.some other)). subst (λ (z : SeatView). StartsWith other.seen z.seen) a.1
+    (behind j other b.0 b.1 (ap (λ (z : SeatView). z.history) a.1 ∙ idle) some (omega arith)))
+    (at_set seats id j new other at'))
+    (λ (a : (i ≢ id) × (get_elem? seats i ≡ maybe.some seat)).
+    ⊎_elim (λ (b : (j ≡ id) × (new ≡ other)).
+    let last : new.last_turn ≡ other.last_turn = ap (λ (z : SeatView). z.last_turn) b.1 in
+    let part : new.part ≡ other.part = ap (λ (z : SeatView). z.part) b.1 in
+    subst (λ (z : SeatView). StartsWith z.seen seat.seen) b.1 (before i seat a.0 a.1 idle (omega arith) (omega arith)))
+    (λ (b : (j ≢ id) × (get_elem? seats j ≡ maybe.some other)). order i j seat other a.1 b.1 idle some le)
+    (at_set seats id j new other at'))
+    (at_set seats id i new seat at)
+
+pub order_as_before : (seats : List SeatView) (id : ℕ) (old new : SeatView) → HaveSeenInOrder seats → get_elem? seats id ≡ maybe.some old
+    → new.seen ≡ old.seen → new.last_turn ≡ old.last_turn → 0 < old.part → (new.history ≡ None → old.history ≡ None) → HaveSeenInOrder (set seats id new)
+order_as_before seats id old new order at seen last part idle =
+    order_set seats id new order
+    (λ j other apart at' none some le. subst (λ (l : List Event). StartsWith l other.seen) (sym seen) (order j id other old at' at none part (omega arith)))
+    (λ j other apart at' none some le. subst (λ (l : List Event). StartsWith other.seen l) (sym seen) (order id j old other at at' (idle none) some (omega arith)))
+
+-- a seat that saw more than all others
+pub order_ahead : (seats : List SeatView) (id : ℕ) (new : SeatView) → HaveSeenInOrder seats
+    → ((j : ℕ) (other : SeatView) → j ≢ id → get_elem? seats j ≡ maybe.some other → StartsWith new.seen other.seen)
+    → ((j : ℕ) (other : SeatView) → j ≢ id → get_elem? seats j ≡ maybe.some other → new.history ≡ None → other.last_turn < new.last_turn)
+    → HaveSeenInOrder (set seats id new)
+order_ahead seats id new order ahead last =
+    order_set seats id new order (λ j other apart at none some le. ahead j other apart at)
+    (λ j other apart at none some le. let h = last j other apart at none in absurd (omega arith))
+
+-- a further seat that saw the same as one of them
+pub order_push : (seats : List SeatView) (id : ℕ) (old new : SeatView) → HaveSeenInOrder seats → get_elem? seats id ≡ maybe.some old
+    → new.seen ≡ old.seen → new.last_turn ≡ old.last_turn → 0 < old.part → old.history ≡ None → HaveSeenInOrder (seats ++ new ∷ [])
+order_push seats id old new order at seen last part idle i j seat other at1 at2 none some le =
+    ⊎_elim (λ (a : get_elem? seats i ≡ maybe.some seat).
+    ⊎_elim (λ (b : get_elem? seats j ≡ maybe.some other). order i j seat other a b none some le)
+    (λ (b : new ≡ other).
+    let same : new.last_turn ≡ other.last_turn = ap (λ (z : SeatView). z.last_turn) b in
+    subst (λ (l : List Event). StartsWith l seat.seen) (sym seen ∙ ap (λ (z : SeatView). z.seen) b) (order i id seat old a at none part (omega arith)))
+    (at_snoc seats new other j at2))
+    (λ (a : new ≡ seat).
+    let first : new.last_turn ≡ seat.last_turn = ap (λ (z : SeatView). z.last_turn) a in
+    ⊎_elim (λ (b : get_elem? seats j ≡ maybe.some other).
+    subst (λ (l : List Event). StartsWith other.seen l) (sym seen ∙ ap (λ (z : SeatView). z.seen) a) (order id j old other at b idle some (omega arith)))
+    (λ (b : new ≡ other). subst (λ (z : SeatView). StartsWith z.seen seat.seen) (sym a ∙ b) (starts_whole seat.seen))
+    (at_snoc seats new other j at2))
+    (at_snoc seats new seat i at1)
+
 -- ---- a seat that takes no step
 
 pub agrees_next : (limit setting next serving next' : ℕ) (history : List Event) (seat : SeatView) → next ≤ next'
@@ -73,6 +132,7 @@ agrees_next limit setting next serving next' history seat le a = record {
   seen = a.seen;
   told = a.told;
   mine = a.mine;
+  last = a.last;
   ticket = λ ticket is. let h = a.ticket ticket is in (h.0, omega arith);
   turn = a.turn;
 }
@@ -86,6 +146,7 @@ agrees_serving limit setting next serving history seat waits a = record {
   seen = a.seen;
   told = a.told;
   mine = a.mine;
+  last = let l = a.last in omega arith;
   ticket = λ ticket is.
       let h = a.ticket ticket is in let ne : ticket ≢ serving = λ e. waits (is ∙ ap (λ (z : ℕ). Some z) e) in (omega arith, h.1);
   turn = λ known is. absurd (waits (a.turn known is).1);
@@ -98,8 +159,9 @@ agrees_history limit setting next serving history more seat waits a = record {
   knows_limit = a.knows_limit;
   knows_setting = a.knows_setting;
   seen = starts_more history seat.seen more a.seen;
-  told = starts_more history seat.told more a.told;
+  told = a.told;
   mine = a.mine;
+  last = a.last;
   ticket = a.ticket;
   turn = λ known is. absurd (waits (a.turn known is).1);
 }

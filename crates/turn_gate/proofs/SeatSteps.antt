@@ -7,28 +7,28 @@ use mathlib.Core.Logic.{dite}
 use native.Mathlib.Decide.{ℕ_discrete, dec_le}
 use lib.ListN.{get_elem?}
 use Rattle.atomic_table.specs.Table.{keeps, step, Allows, Splits, Joins}
-use Rattle.atomic_table.proofs.Lists.{set_else, at_snoc, at_longer}
+use Rattle.atomic_table.proofs.Lists.{set_here, set_else, at_snoc, at_longer}
 use Rattle.venue_words.specs.Journals.{StartsWith}
 use Rattle.venue_words.specs.declared.command.Event.{Event}
 use Rattle.turn_gate.specs.declared.view.SeatView.{SeatView}
 use Rattle.turn_gate.specs.Numbers.{IncreasesWithin, times, merge_of}
 use Rattle.turn_gate.specs.Rule.{IsOut, spent_seat}
 use Rattle.turn_gate.specs.Steps.{SeatAndSlot, ComparesSeen, without_part, split_off, joined_seat}
-use Rattle.turn_gate.proofs.Prefixes.{starts_both}
-use Rattle.turn_gate.proofs.Sums.{sum_set, two_le_sum}
+use Rattle.turn_gate.proofs.Prefixes.{starts_length}
+use Rattle.turn_gate.proofs.Sums.{sum_set, two_le_sum, inside}
 use Rattle.turn_gate.proofs.Merges.{lt_cases, times_below, times_merge, increases_more, increases_merge}
-use Rattle.turn_gate.proofs.OneSeat.{each_set, own_as_before, own_if_none, different_set}
+use Rattle.turn_gate.proofs.OneSeat.{each_set, own_as_before, own_if_none, different_set, order_set, order_as_before, order_push}
 use Rattle.turn_gate.proofs.Moves.{Rule, Agrees, Home, value_stays, unmoved}
 
 module _ {V : Type 0} (journal : V → List Event) (limit setting : V → ℕ) (made : V) where
-  -- both lists are beginnings of the history
-  pub compares : (slots id : ℕ) (me : SeatAndSlot V) → length me.0.told ≤ length me.0.seen
+  -- what the seat was told is a beginning of what it has seen
+  pub compares : (slots id : ℕ) (me : SeatAndSlot V) → 0 < me.0.part
       → Allows (Rule journal limit setting made) slots id me 0 (λ n. n) (ComparesSeen (step slots 0 0 0 maybe.none) me)
-  compares slots id me le s r len at _ = let a = r.seats id me.0 at in
-      (me.0, keeps, tt, unmoved journal limit setting made s r id 0 me.0 me.1 at, (refl, starts_both r.history me.0.seen me.0.told a.seen a.told le, a.mine))
+  compares slots id me part s r len at _ = let a = r.seats id me.0 at in
+      (me.0, keeps, tt, unmoved journal limit setting made s r id 0 me.0 me.1 at part, (refl, a.told, a.mine))
 
-  pub splits : (id : ℕ) (seat : SeatView) → 1 < seat.part → seat.opening ≡ false → Splits (Rule journal limit setting made) id seat (without_part seat) (split_off seat)
-  splits id seat part closed s r at =
+  pub splits : (id : ℕ) (seat : SeatView) → 1 < seat.part → seat.opening ≡ false → seat.history ≡ None → Splits (Rule journal limit setting made) id seat (without_part seat) (split_off seat)
+  splits id seat part closed idle s r at =
       let a = r.seats id seat at in
       let old : SeatView = without_part seat in
       let new : SeatView = split_off seat in
@@ -40,6 +40,7 @@ module _ {V : Type 0} (journal : V → List Event) (limit setting : V → ℕ) (
         seen = a.seen;
         told = a.told;
         mine = a.mine;
+        last = a.last;
         ticket = a.ticket;
         turn = a.turn;
       } in
@@ -48,8 +49,9 @@ module _ {V : Type 0} (journal : V → List Event) (limit setting : V → ℕ) (
         knows_limit = λ _. a.knows_limit (omega arith);
         knows_setting = λ _. a.knows_setting (omega arith);
         seen = a.seen;
-        told = (r.history, refl);
+        told = (seat.seen, refl);
         mine = (omega arith);
+        last = a.last;
         ticket = λ t is. absurd (cc);
         turn = λ known is. absurd (cc);
       } in record {
@@ -67,6 +69,8 @@ module _ {V : Type 0} (journal : V → List Event) (limit setting : V → ℕ) (
             ⊎_elim (λ (b : get_elem? seats j ≡ maybe.some y). different_set s.views id old r.tickets (own_as_before s.views id seat old r.tickets at refl) i j t x y a b is1 is2)
             (λ (b : new ≡ y). let e : y.ticket ≡ None = ap (λ (z : SeatView). z.ticket) (sym b) in absurd (cc)) (at_snoc seats new y j at2))
             (λ (a : new ≡ x). let e : x.ticket ≡ None = ap (λ (z : SeatView). z.ticket) (sym a) in absurd (cc)) (at_snoc seats new x i at1);
+        looks = order_push seats id old new (order_as_before s.views id seat old r.looks at refl refl (omega arith) (λ none. none))
+            (set_here s.views id old (inside s.views id seat at)) refl refl (omega arith) idle;
         value = ⊎_elim
             (λ (p : Home journal limit setting made s.homes seats r.history). inl record {
               value = p.value;
@@ -103,6 +107,10 @@ module _ {V : Type 0} (journal : V → List Event) (limit setting : V → ℕ) (
       let b = r.seats other gone at2 in
       let new : SeatView = joined_seat seat gone in
       let seats : List SeatView = set s.views id new in
+      let ahead : seat.last_turn < gone.last_turn → StartsWith gone.seen seat.seen =
+      λ lt. r.looks id other seat gone at at2 idle part' (omega arith) in
+      let behind : gone.last_turn ≤ seat.last_turn → StartsWith seat.seen gone.seen =
+      λ le. r.looks other id gone seat at2 at idle' part le in
       let twice : (k : ℕ) → times k seat.mine + times k gone.mine ≤ sum_by (λ z. times k z.mine) s.views =
       λ k. two_le_sum (λ z. times k z.mine) s.views id other seat gone at at2 apart in
       let once : (k : ℕ) → times k seat.mine + times k gone.mine ≤ 1 = λ k. let t = twice k in
@@ -113,11 +121,14 @@ module _ {V : Type 0} (journal : V → List Event) (limit setting : V → ℕ) (
         spent = λ gone. absurd (omega arith);
         knows_limit = λ _. a.knows_limit part;
         knows_setting = λ _. a.knows_setting part;
-        seen = lt_cases (length seat.seen) (length gone.seen) (λ c. StartsWith r.history (cond c gone.seen seat.seen)) (λ _. b.seen) (λ _. a.seen);
-        told = lt_cases (length seat.seen) (length gone.seen) (λ c. StartsWith r.history (cond c seat.seen gone.seen)) (λ _. a.seen) (λ _. b.seen);
-        mine = lt_cases (length seat.seen) (length gone.seen) (λ c. IncreasesWithin 0 (length (cond c gone.seen seat.seen)) (merge_of seat.mine gone.mine))
-            (λ lt. increases_merge 0 (length gone.seen) seat.mine gone.mine (increases_more 0 (length seat.seen) (length gone.seen) seat.mine a.mine (omega arith)) b.mine once)
-            (λ le. increases_merge 0 (length seat.seen) seat.mine gone.mine a.mine (increases_more 0 (length gone.seen) (length seat.seen) gone.mine b.mine le) once);
+        seen = lt_cases seat.last_turn gone.last_turn (λ c. StartsWith r.history (cond c gone.seen seat.seen)) (λ _. b.seen) (λ _. a.seen);
+        told = lt_cases seat.last_turn gone.last_turn (λ c. StartsWith (cond c gone.seen seat.seen) (cond c seat.seen gone.seen)) ahead behind;
+        mine = lt_cases seat.last_turn gone.last_turn (λ c. IncreasesWithin 0 (length (cond c gone.seen seat.seen)) (merge_of seat.mine gone.mine))
+            (λ lt. let le = starts_length gone.seen seat.seen (ahead lt) in
+            increases_merge 0 (length gone.seen) seat.mine gone.mine (increases_more 0 (length seat.seen) (length gone.seen) seat.mine a.mine le) b.mine once)
+            (λ lt. let le = starts_length seat.seen gone.seen (behind lt) in
+            increases_merge 0 (length seat.seen) seat.mine gone.mine a.mine (increases_more 0 (length gone.seen) (length seat.seen) gone.mine b.mine le) once);
+        last = (let l = a.last in let m = b.last in omega arith);
         ticket = λ t is. absurd (cc);
         turn = λ known is. absurd (cc);
       } in
@@ -126,8 +137,9 @@ module _ {V : Type 0} (journal : V → List Event) (limit setting : V → ℕ) (
         knows_limit = λ h. absurd (omega arith);
         knows_setting = λ h. absurd (omega arith);
         seen = (r.history, refl);
-        told = (r.history, refl);
+        told = ([], refl);
         mine = (omega arith);
+        last = omega arith;
         ticket = λ t is. absurd (cc);
         turn = λ known is. absurd (cc);
       } in
@@ -144,6 +156,13 @@ module _ {V : Type 0} (journal : V → List Event) (limit setting : V → ℕ) (
         seats = each_set (Agrees journal limit setting made r.next r.serving r.history) seats other spent_seat its
             (λ j u _. each_set (Agrees journal limit setting made r.next r.serving r.history) s.views id new own (λ j u _. r.seats j u) j u);
         tickets = different_set seats other spent_seat (different_set s.views id new r.tickets (own_if_none s.views id new none)) (own_if_none seats other spent_seat refl);
+        looks = order_set seats other spent_seat
+            (order_set s.views id new r.looks
+            (λ j u _ at3 none some le. lt_cases seat.last_turn gone.last_turn (λ c. StartsWith (cond c gone.seen seat.seen) u.seen)
+            (λ lt. r.looks j other u gone at3 at2 none part' (omega arith)) (λ lt. r.looks j id u seat at3 at none part (omega arith)))
+            (λ j u _ at3 none some le. lt_cases seat.last_turn gone.last_turn (λ c. StartsWith u.seen (cond c gone.seen seat.seen))
+            (λ lt. r.looks other j gone u at2 at3 idle' some (omega arith)) (λ lt. r.looks id j seat u at at3 idle some (omega arith))))
+            (λ j u _ _ none some le. absurd (omega arith)) (λ j u _ _ none some le. (u.seen, refl));
         value = ⊎_elim
             (λ (p : Home journal limit setting made s.homes s.views r.history). inl record {
               value = p.value;

@@ -13,9 +13,9 @@ use Rattle.venue_words.specs.declared.command.Event.{Event}
 use Rattle.turn_gate.specs.declared.view.SeatView.{SeatView}
 use Rattle.turn_gate.specs.Rule.{EachNumberOnce}
 use Rattle.turn_gate.specs.Steps.{SeatAndSlot, with_event, after_turn, journal_held, TakesEmptySlot, DrawsTicket, TakesTurn, RecordsEvent, PassesTurn}
-use Rattle.turn_gate.proofs.Prefixes.{starts_more, starts_whole, starts_length}
+use Rattle.turn_gate.proofs.Prefixes.{starts_more, starts_whole, starts_length, starts_trans}
 use Rattle.turn_gate.proofs.Merges.{increases_more, increases_push}
-use Rattle.turn_gate.proofs.OneSeat.{each_set, is_none, own_as_before, own_if_none, agrees_next, agrees_serving, agrees_history, once_set, once_more}
+use Rattle.turn_gate.proofs.OneSeat.{each_set, is_none, own_as_before, own_if_none, agrees_next, agrees_serving, agrees_history, order_as_before, order_ahead, once_set, once_more}
 use Rattle.turn_gate.proofs.Moves.{Rule, Agrees, holder_is, home_is, others_wait, moved, out_with, value_stays, unmoved}
 
 module _ {V : Type 0} (journal : V → List Event) (limit setting : V → ℕ) (made : V) where
@@ -37,6 +37,7 @@ module _ {V : Type 0} (journal : V → List Event) (limit setting : V → ℕ) (
         seen = a.seen;
         told = a.told;
         mine = a.mine;
+        last = a.last;
         ticket = λ t is. let e : x ≡ t = (cc) in (omega arith, omega arith);
         turn = λ known is. absurd (cc);
       } in (
@@ -48,6 +49,7 @@ module _ {V : Type 0} (journal : V → List Event) (limit setting : V → ℕ) (
             (ap (λ (ws : List ℕ). set ws 0 (old + 1)) r.words) (omega arith) small r.room own
             (λ j other _ at'. agrees_next (limit made) (setting made) r.next r.serving (old + 1) r.history other (omega arith) (r.seats j other at'))
             (λ t is j other apart at' is'. let e : x ≡ t = (cc) in let g = (r.seats j other at').ticket t is' in let b = g.1 in absurd (omega arith))
+            (order_as_before s.views id me.0 new r.looks at refl refl part (λ none. none))
             (value_stays journal limit setting made s r id me.0 new at refl refl) refl refl
             (once_set s.views id (length r.history) me.0 new at refl r.numbers)),
         ((λ _. refl), (λ no. absurd (no hit))),
@@ -56,7 +58,7 @@ module _ {V : Type 0} (journal : V → List Event) (limit setting : V → ℕ) (
         me.0,
         keeps,
         tt,
-        subst (λ b. Rule journal limit setting made (stepped s 0 (either b (old + 1) x) id me.1 me.0 keeps)) (sym (ne_eqb x old miss)) (unmoved journal limit setting made s r id 0 me.0 me.1 at),
+        subst (λ b. Rule journal limit setting made (stepped s 0 (either b (old + 1) x) id me.1 me.0 keeps)) (sym (ne_eqb x old miss)) (unmoved journal limit setting made s r id 0 me.0 me.1 at part),
         ((λ hit. absurd (miss hit)), (λ _. refl)),
       ))
 
@@ -80,6 +82,7 @@ module _ {V : Type 0} (journal : V → List Event) (limit setting : V → ℕ) (
         seen = a.seen;
         told = a.told;
         mine = a.mine;
+        last = a.last;
         ticket = a.ticket;
         turn = λ known e. ((let j = value_is.journal in (cc)), served);
       } in (
@@ -89,6 +92,7 @@ module _ {V : Type 0} (journal : V → List Event) (limit setting : V → ℕ) (
         moved journal limit setting made s r id me.0 new at (set s.words 1 x) (set s.homes 0 maybe.none) r.next r.serving r.history
             (set-get_or s.words 1 0 ∙ r.words) r.order r.fits r.room own (λ j other _. r.seats j other)
             (own_as_before s.views id me.0 new r.tickets at refl)
+            (order_as_before s.views id me.0 new r.looks at refl refl part (λ none. absurd (cc)))
             (inr (out_with journal limit setting made s r id me.0 new (journal home.value) (set s.homes 0 maybe.none) at refl
             (ap (λ (hs : List (maybe.Option (Option V))). set hs 0 maybe.none) home.slot ∙ ap (λ (b : Bool). cond b (maybe.some None) maybe.none ∷ []) (sym closed))))
             refl refl (once_set s.views id (length r.history) me.0 new at refl r.numbers),
@@ -100,6 +104,7 @@ module _ {V : Type 0} (journal : V → List Event) (limit setting : V → ℕ) (
             setting = value_is.setting ∙ sym (a.knows_setting part);
             seen = subst (λ (l : List Event). StartsWith l me.0.seen) (sym value_is.journal) a.seen;
             room = (let j : length (journal home.value) ≡ length r.history = ap length value_is.journal in let b = value_is.limit in let c = r.room in omega arith);
+            later = λ ticket is'. let same : ticket ≡ t = (cc) in let l = a.last in omega arith;
           }),
           (λ no. absurd (no (is ∙ ap (λ (z : ℕ). Some z) hit))),
         ),
@@ -108,7 +113,7 @@ module _ {V : Type 0} (journal : V → List Event) (limit setting : V → ℕ) (
         me.0,
         keeps,
         tt,
-        unmoved journal limit setting made s r id 1 me.0 me.1 at,
+        unmoved journal limit setting made s r id 1 me.0 me.1 at part,
         ((λ hit. absurd (miss (cc))), (λ _. refl)),
       ))
 
@@ -127,6 +132,7 @@ module _ {V : Type 0} (journal : V → List Event) (limit setting : V → ℕ) (
         seen = a.seen;
         told = a.told;
         mine = a.mine;
+        last = a.last;
         ticket = a.ticket;
         turn = a.turn;
       } in (
@@ -136,6 +142,7 @@ module _ {V : Type 0} (journal : V → List Event) (limit setting : V → ℕ) (
         moved journal limit setting made s r id me.0 new at (set s.words 1 (get_or s.words 1 0)) (set s.homes 0 maybe.none) r.next r.serving r.history
             (set-get_or s.words 1 0 ∙ r.words) r.order r.fits r.room own (λ j other _. r.seats j other)
             (own_as_before s.views id me.0 new r.tickets at refl)
+            (order_as_before s.views id me.0 new r.looks at refl refl part (λ none. none))
             (inr (out_with journal limit setting made s r id me.0 new [] (set s.homes 0 maybe.none) at has_turn (ap (λ (hs : List (maybe.Option (Option V))). set hs 0 maybe.none) slot)))
             refl refl (once_set s.views id (length r.history) me.0 new at refl r.numbers),
         ap (λ (cs : List (ℕ × Option V)). (new, (0, None) ∷ cs)) free,
@@ -156,14 +163,17 @@ module _ {V : Type 0} (journal : V → List Event) (limit setting : V → ℕ) (
       let long : length J ≡ length r.history + 1 = ap length grown ∙ length-append r.history (e ∷ []) in
       let same : length known ≡ length r.history = ap length held.0 in
       let N : (n + 1) % 2 ^ 64 ≡ length J = mod-eq_of_lt (omega arith) ∙ (omega arith) in
+      let longer : (l : List Event) → StartsWith r.history l → StartsWith J l =
+      λ l begins. subst (λ (all : List Event). StartsWith all l) (sym grown) (starts_more r.history l (e ∷ []) begins) in
       let new : SeatView = with_event J me.0 in
       let own : Agrees journal limit setting made r.next r.serving J new = record {
         spent = λ gone. absurd (omega arith);
         knows_limit = a.knows_limit;
         knows_setting = a.knows_setting;
         seen = starts_whole J;
-        told = subst (λ (l : List Event). StartsWith l me.0.told) (sym grown) (starts_more r.history me.0.told (e ∷ []) a.told);
+        told = starts_trans J me.0.seen me.0.told (longer me.0.seen a.seen) a.told;
         mine = (let b = starts_length r.history me.0.seen a.seen in increases_push 0 (length me.0.seen) (length J) me.0.mine a.mine (omega arith));
+        last = a.last;
         ticket = a.ticket;
         turn = λ k is'. ((cc), held.1);
       } in (
@@ -176,6 +186,7 @@ module _ {V : Type 0} (journal : V → List Event) (limit setting : V → ℕ) (
             (λ j other apart at'. subst (λ (l : List Event). Agrees journal limit setting made r.next r.serving l other) (sym grown)
             (agrees_history (limit made) (setting made) r.next r.serving r.history (e ∷ []) other (others_wait journal limit setting made s r id me.0 at held.1 j other apart at') (r.seats j other at')))
             (own_as_before s.views id me.0 new r.tickets at refl)
+            (order_ahead s.views id new r.looks (λ j other apart at'. longer other.seen (r.seats j other at').seen) (λ j other apart at' none. absurd (cc)))
             (inr (out_with journal limit setting made s r id me.0 new J s.homes at refl held.2)) refl refl
             (subst (EachNumberOnce (set s.views id new)) (sym long) (once_more s.views id (length r.history) me.0 new at (ap (λ (k : ℕ). me.0.mine ++ k ∷ []) long) r.numbers)),
         refl,
@@ -194,7 +205,8 @@ module _ {V : Type 0} (journal : V → List Event) (limit setting : V → ℕ) (
       let long : length J ≡ length r.history = ap length all in
       let now : t ≡ r.serving = (let b = held.1 in (cc)) in
       let below = a.ticket t is in
-      let new : SeatView = after_turn J me.0 in
+      let new : SeatView = after_turn (t + 1) J me.0 in
+      let whole : (l : List Event) → StartsWith r.history l → StartsWith J l = λ l begins. subst (λ (h : List Event). StartsWith h l) (sym all) begins in
       let slot : put_back s.homes me.1 ≡ maybe.some (Some x) ∷ [] =
       ap (put_back s.homes) has ∙ ap (λ (hs : List (maybe.Option (Option V))). set hs 0 (maybe.some (Some x))) (held.2 ∙ ap (λ (b : Bool). cond b (maybe.some None) maybe.none ∷ []) closed) in
       let next_is : t + 1 ≡ r.serving + 1 = ap (λ (z : ℕ). z + 1) now in
@@ -203,8 +215,9 @@ module _ {V : Type 0} (journal : V → List Event) (limit setting : V → ℕ) (
         knows_limit = a.knows_limit;
         knows_setting = a.knows_setting;
         seen = subst (λ (l : List Event). StartsWith r.history l) (sym all) (starts_whole r.history);
-        told = a.told;
+        told = starts_trans J me.0.seen me.0.told (whole me.0.seen a.seen) a.told;
         mine = (let b = starts_length r.history me.0.seen a.seen in increases_more 0 (length me.0.seen) (length J) me.0.mine a.mine (omega arith));
+        last = omega arith;
         ticket = λ u is'. absurd (cc);
         turn = λ k is'. absurd (cc);
       } in (
@@ -216,6 +229,8 @@ module _ {V : Type 0} (journal : V → List Event) (limit setting : V → ℕ) (
             (λ j other apart at'. subst (λ (z : ℕ). Agrees journal limit setting made r.next z r.history other) (sym next_is)
             (agrees_serving (limit made) (setting made) r.next r.serving r.history other (others_wait journal limit setting made s r id me.0 at held.1 j other apart at') (r.seats j other at')))
             (own_if_none s.views id new refl)
+            (order_ahead s.views id new r.looks (λ j other apart at'. whole other.seen (r.seats j other at').seen)
+            (λ j other apart at' none. let l = (r.seats j other at').last in omega arith))
             (inl record {
               value = x;
               slot = slot;

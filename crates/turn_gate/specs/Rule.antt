@@ -21,6 +21,7 @@ spent_seat = record {
   setting = 0;
   turns = 0;
   joined_turns = 0;
+  last_turn = 0;
   seen = [];
   told = [];
   mine = [];
@@ -47,10 +48,12 @@ pub record AgreesWith (limit setting next serving : ℕ) (history : List Event) 
   pub spent : seat.part ≡ 0 → seat ≡ spent_seat
   pub knows_limit : 0 < seat.part → seat.limit ≡ limit
   pub knows_setting : 0 < seat.part → seat.setting ≡ setting
-  -- it has seen a beginning of the history, and its own numbers lie there
+  -- it has seen a beginning of the history by the end of a turn that was passed; what another seat had seen that was joined
+  -- into it, and its own numbers, lie there
   pub seen : StartsWith history seat.seen
-  pub told : StartsWith history seat.told
+  pub told : StartsWith seat.seen seat.told
   pub mine : IncreasesWithin 0 (length seat.seen) seat.mine
+  pub last : seat.last_turn ≤ serving
   -- its ticket was drawn and not passed yet;
   -- it has the turn only where its ticket is served, and then knows the history
   pub ticket : (ticket : ℕ) → seat.ticket ≡ Some ticket → (serving ≤ ticket) × (ticket < next)
@@ -62,6 +65,13 @@ HaveDifferentTickets seats =
     (i j ticket : ℕ) (seat other : SeatView)
     → get_elem? seats i ≡ maybe.some seat → get_elem? seats j ≡ maybe.some other
     → seat.ticket ≡ Some ticket → other.ticket ≡ Some ticket → i ≡ j
+
+-- of two seats the one that saw less turns has seen a beginning of what the other has seen, unless it has the turn
+abbrev pub HaveSeenInOrder : List SeatView → Type 0
+HaveSeenInOrder seats =
+    (i j : ℕ) (seat other : SeatView)
+    → get_elem? seats i ≡ maybe.some seat → get_elem? seats j ≡ maybe.some other
+    → seat.history ≡ None → 0 < other.part → seat.last_turn ≤ other.last_turn → StartsWith other.seen seat.seen
 
 -- each number from 1 to `count` is the own number of just one seat, once, and no greater number is one
 pub record EachNumberOnce (seats : List SeatView) (count : ℕ) : Type 0 where
@@ -108,6 +118,7 @@ module _ {V : Type 0} (journal_of : V → List Event) (limit_of setting_of : V �
     pub seats : (j : ℕ) (seat : SeatView) → get_elem? state.views j ≡ maybe.some seat
         → AgreesWith (limit_of opening_value) (setting_of opening_value) next serving history seat
     pub tickets : HaveDifferentTickets state.views
+    pub looks : HaveSeenInOrder state.views
     -- the value
     pub value : IsHome state.homes state.views history ⊎ IsOut state.homes state.views
     -- the parts are all parts, the turns all turns that were passed, and the numbers all numbers

@@ -11,11 +11,13 @@ pub record GateId : Type 0 where
   pub limit : ℕ
   pub setting : ℕ
 
--- a seat: its gate, how many turns it passed, the beginning of the history that it has seen, the numbers there of its
--- own events and of those of the seats that were joined into it, and its part of the gate in 65,536ths
+-- a seat: its gate, how many turns it passed, the turn of the gate by whose end it had seen what it has seen, counted from 1,
+-- the beginning of the history that it has seen, the numbers there of its own events and of those of the seats that were
+-- joined into it, and its part of the gate in 65,536ths
 pub record SeatState : Type 0 where
   pub gate : GateId
   pub turns : ℕ
+  pub last_turn : ℕ
   pub seen : List Event
   pub mine : List ℕ
   pub part : ℕ
@@ -27,6 +29,7 @@ abbrev pub seat_state : TableId → SeatView → SeatState
 seat_state table seat = record {
   gate = gate_id table seat.limit seat.setting;
   turns = seat.turns;
+  last_turn = seat.last_turn;
   seen = seat.seen;
   mine = seat.mine;
   part = seat.part;

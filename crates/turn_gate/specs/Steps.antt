@@ -1,5 +1,5 @@
 -- What each step tells the seat that takes it.
-use Rattle.std.specs.Prelude.{◌≡◌, ℕ, ◌+◌, ◌-◌, ◌≤◌, false, if◌then◌else◌, nat_lt, List, [], ◌∷◌, ◌++◌, length, Option, None, Some}
+use Rattle.std.specs.Prelude.{◌≡◌, ℕ, ◌+◌, ◌-◌, ◌≤◌, max, false, if◌then◌else◌, nat_lt, List, [], ◌∷◌, ◌++◌, length, Option, None, Some}
 use Rattle.atomic_table.specs.Table.{Me, Step}
 use Rattle.venue_words.specs.Journals.{StartsWith}
 use Rattle.venue_words.specs.declared.command.Event.{Event}
@@ -19,9 +19,15 @@ with_event history seat = record seat {
   mine = seat.mine ++ length history ∷ [];
 }
 
--- the seat has passed the turn, in which the history was this one
-abbrev pub after_turn : List Event → SeatView → SeatView
-after_turn history seat = record seat { seen = history; turns = seat.turns + 1; ticket = None; history = None }
+-- the seat has passed this turn of the gate, in which the history was this one
+abbrev pub after_turn : ℕ → List Event → SeatView → SeatView
+after_turn turn history seat = record seat {
+  seen = history;
+  turns = seat.turns + 1;
+  last_turn = turn;
+  ticket = None;
+  history = None;
+}
 
 module _ {V : Type 0} where
   -- the first seat has taken the empty slot
@@ -42,6 +48,7 @@ module _ {V : Type 0} where
     pub setting : setting_of value ≡ before.0.setting
     pub seen : StartsWith (journal_of value) before.0.seen
     pub room : length (journal_of value) ≤ limit_of value
+    pub later : (ticket : ℕ) → before.0.ticket ≡ Some ticket → before.0.last_turn ≤ ticket
 
   -- where the ticket that is served is the seat's own, it has the turn, and else nothing has changed
   abbrev pub TakesTurn : (V → List Event) → (V → ℕ) → (V → ℕ)
@@ -59,21 +66,25 @@ module _ {V : Type 0} where
   abbrev pub RecordsEvent : (V → List Event) → Step (Option V) → SeatAndSlot V → ℕ → SeatAndSlot V → Type 0
   RecordsEvent journal step before found after = after ≡ (with_event (journal_held journal before.1) before.0, before.1)
 
-  -- the seat has seen the value's journal, and the value is in its slot
+  -- the seat has seen the value's journal, and the value is in its slot; the next ticket is the number of the turn
   abbrev pub PassesTurn : (V → List Event) → Step (Option V) → SeatAndSlot V → ℕ → SeatAndSlot V → Type 0
-  PassesTurn journal step before found after = after ≡ (after_turn (journal_held journal before.1) before.0, [])
+  PassesTurn journal step before found after = after ≡ (after_turn step.first (journal_held journal before.1) before.0, [])
 
   -- what the seat has seen begins with what it was told, and its own numbers increase there
   abbrev pub ComparesSeen : Step (Option V) → SeatAndSlot V → ℕ → SeatAndSlot V → Type 0
   ComparesSeen step before found after =
       (after ≡ before) × StartsWith before.0.seen before.0.told × IncreasesWithin 0 (length before.0.seen) before.0.mine
 
--- the longer of two lists, and the shorter
+-- the longer of two lists
 abbrev pub longer_of : List Event → List Event → List Event
 longer_of xs ys = if nat_lt (length xs) (length ys) then ys else xs
 
-abbrev pub shorter_of : List Event → List Event → List Event
-shorter_of xs ys = if nat_lt (length xs) (length ys) then xs else ys
+-- of two seats, what the one has seen that saw the later turn, and what the other has seen
+abbrev pub later_seen : SeatView → SeatView → List Event
+later_seen seat other = if nat_lt seat.last_turn other.last_turn then other.seen else seat.seen
+
+abbrev pub earlier_seen : SeatView → SeatView → List Event
+earlier_seen seat other = if nat_lt seat.last_turn other.last_turn then seat.seen else other.seen
 
 -- a seat after one part was split off
 abbrev pub without_part : SeatView → SeatView
@@ -81,14 +92,21 @@ without_part seat = record seat { part = seat.part - 1 }
 
 -- the seat that was split off: it has seen the same
 abbrev pub split_off : SeatView → SeatView
-split_off seat = record spent_seat { limit = seat.limit; setting = seat.setting; seen = seat.seen; part = 1 }
+split_off seat = record spent_seat {
+  limit = seat.limit;
+  setting = seat.setting;
+  last_turn = seat.last_turn;
+  seen = seat.seen;
+  part = 1;
+}
 
 -- a seat with another one joined into it
 abbrev pub joined_seat : SeatView → SeatView → SeatView
 joined_seat seat other = record seat {
   joined_turns = seat.joined_turns + (other.turns + other.joined_turns);
-  seen = longer_of seat.seen other.seen;
-  told = shorter_of seat.seen other.seen;
+  last_turn = max seat.last_turn other.last_turn;
+  seen = later_seen seat other;
+  told = earlier_seen seat other;
   mine = merge_of seat.mine other.mine;
   part = seat.part + other.part;
 }

@@ -43,13 +43,15 @@ module _ {V : Type 0} where
       (steps_before steps_after : ℕ) : Type 0 where
     pub history : List Event
     pub seen : StartsWith history before.0.seen
+    pub turn : ℕ
     pub after_is : after ≡ (
-      after_turn (history ++ event number feed moment command ∷ [])
+      after_turn turn (history ++ event number feed moment command ∷ [])
           (with_event (history ++ event number feed moment command ∷ []) before.0),
       [],
     )
     pub number_is : number ≡ length history + 1
     pub room : number ≤ before.0.limit
+    pub later : before.0.last_turn < turn
     pub steps : IfSome (step_limit before.0.setting history (event number feed moment command)) (λ most.
         steps_after ≤ steps_before + most)
 
@@ -61,7 +63,9 @@ module _ {V : Type 0} where
       (steps_before steps_after : ℕ) : Type 0 where
     pub history : List Event
     pub seen : StartsWith history before.0.seen
-    pub after_is : after ≡ (after_turn history before.0, [])
+    pub turn : ℕ
+    pub after_is : after ≡ (after_turn turn history before.0, [])
+    pub later : before.0.last_turn < turn
     pub full : IfFull (λ found. (found ≡ length history) × (found ≡ before.0.limit)) refusal
     pub steps : CostsNothing (step_limit before.0.setting) history
         (event (length history + 1) feed moment command) steps_before steps_after

@@ -1,5 +1,5 @@
 //! The calls of a gate, on its table.
-ghost use Rattle.std.specs.Prelude.{◌≡◌, ◌+◌, true, false, [], length, List, IfOk, IfErr, None};
+ghost use Rattle.std.specs.Prelude.{◌≡◌, ◌+◌, ◌<◌, ℕ, true, false, [], length, List, IfOk, IfErr, None};
 ghost use Rattle.venue_words.specs.Journals.{StartsWith, reports_of};
 ghost use Rattle.venue_words.specs.declared.command.Event.{Event};
 ghost use Rattle.turn_gate.specs.Rule.{whole, opening_seat};
@@ -25,7 +25,7 @@ pub(crate) fn open<V: Held>(table: &GateTable<V>, seat: &mut TableSeat<V>, value
     requires empty { V.journal value ≡ [] }
     ensures table { (seat.new.table_id ≡ seat.old.table_id) × (seat.new.id ≡ seat.old.id) }
     ensures passed { seat.new.me ≡
-        (after_turn [] (record (opening_seat (V.limit value) (V.setting value)) { opening = false }), []) }
+        (after_turn 1 [] (record (opening_seat (V.limit value) (V.setting value)) { opening = false }), []) }
 {
     table.load::<TakeEmptySlot>(seat, SERVING);
     lay(table, seat, value);
@@ -73,8 +73,8 @@ pub(crate) fn look<V: Held, R: Wait>(
     requires table { (seat.old.table_id ≡ table.now.table_id) × (table.now.table_id.words ≡ 3) }
     requires at_rest { IsAtRest seat.old.me.0 × (seat.old.me.1 ≡ []) }
     ensures table { (seat.new.table_id ≡ seat.old.table_id) × (seat.new.id ≡ seat.old.id) }
-    ensures seen { (history : List Event) × StartsWith history seat.old.me.0.seen
-        × (seat.new.me ≡ (after_turn history seat.old.me.0, [])) }
+    ensures seen { (history : List Event) × (turn : ℕ) × StartsWith history seat.old.me.0.seen
+        × (seat.new.me ≡ (after_turn turn history seat.old.me.0, [])) × (seat.old.me.0.last_turn < turn) }
     ensures reports { IfOk result (λ look. look.reports
         ≡ reports_of member from (V.reports seat.old.me.0.setting seat.new.me.0.seen)) }
     ensures front { IfOk result (λ look. look.front ≡ length (V.reports seat.old.me.0.setting seat.new.me.0.seen)) }

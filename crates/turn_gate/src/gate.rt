@@ -1,5 +1,5 @@
 //! The gate.
-ghost use Rattle.std.specs.Prelude.{◌≡◌, ◌+◌, ◌-◌, ◌<◌, ◌≤◌, true, [], ◌∷◌, ◌++◌, length, IfOk, IfErr, OnErr};
+ghost use Rattle.std.specs.Prelude.{◌≡◌, ◌+◌, ◌-◌, ◌<◌, ◌≤◌, max, true, [], ◌∷◌, ◌++◌, length, IfOk, IfErr, OnErr};
 ghost use Rattle.std.specs.List.{range_with_len};
 ghost use Rattle.venue_words.specs.Floors.{CostsAtMost, CostsNothing};
 ghost use Rattle.venue_words.specs.Journals.{event, StartsWith, IfFull, reports_of};
@@ -73,7 +73,14 @@ impl<V: Held> Gate<V> {
         requires gate { seat.old.gate ≡ self.now }
         requires part { 1 < seat.old.part }
         ensures old { seat.new ≡ record seat.old { part = seat.old.part - 1 } }
-        ensures new { result ≡ record { gate = seat.old.gate; turns = 0; seen = seat.old.seen; mine = []; part = 1 } }
+        ensures new { result ≡ record {
+          gate = seat.old.gate;
+          turns = 0;
+          last_turn = seat.old.last_turn;
+          seen = seat.old.seen;
+          mine = [];
+          part = 1;
+        } }
     {
         let badge = mem::replace(&mut seat.badge, Badge::blank());
         let mut table_seat: TableSeat<V> = badge.into_seat();
@@ -90,6 +97,7 @@ impl<V: Held> Gate<V> {
         requires gate { seat.old.gate ≡ self.now }
         requires other_gate { other.gate ≡ self.now }
         ensures seat { seat.new ≡ record seat.old {
+          last_turn = max seat.old.last_turn other.last_turn;
           seen = longer_of seat.old.seen other.seen;
           mine = merge_of seat.old.mine other.mine;
           part = seat.old.part + other.part;
@@ -99,6 +107,10 @@ impl<V: Held> Gate<V> {
         ensures seen { StartsWith seat.new.seen seat.old.seen }
         ensures other_seen { StartsWith seat.new.seen other.seen }
         ensures mine { IncreasesWithin 0 (length seat.new.seen) seat.new.mine }
+
+        // Who saw the later turn has seen no less.
+        ensures later { seat.old.last_turn < other.last_turn → StartsWith other.seen seat.old.seen }
+        ensures earlier { other.last_turn ≤ seat.old.last_turn → StartsWith seat.old.seen other.seen }
     {
         let badge = mem::replace(&mut seat.badge, Badge::blank());
         let mut table_seat: TableSeat<V> = badge.into_seat();
@@ -131,6 +143,7 @@ impl<V: Held> Gate<V> {
         ensures gate { seat.new.gate ≡ seat.old.gate }
         ensures part { seat.new.part ≡ seat.old.part }
         ensures turns { seat.new.turns ≡ seat.old.turns + 1 }
+        ensures last_turn { seat.old.last_turn < seat.new.last_turn }
 
         // The event stands once in the history, behind all that the seat had seen, and is its own.
         ensures event { IfOk result (λ number. Extends seat.old.seen seat.new.seen (event number feed moment command.now)) }
@@ -171,6 +184,7 @@ impl<V: Held> Gate<V> {
         ensures gate { seat.new.gate ≡ seat.old.gate }
         ensures part { seat.new.part ≡ seat.old.part }
         ensures turns { seat.new.turns ≡ seat.old.turns + 1 }
+        ensures last_turn { seat.old.last_turn < seat.new.last_turn }
         ensures seen { StartsWith seat.new.seen seat.old.seen }
         ensures mine { seat.new.mine ≡ seat.old.mine }
         ensures reports { IfOk result (λ look. look.reports

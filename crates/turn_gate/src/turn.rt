@@ -66,6 +66,7 @@ pub(crate) fn take_turn<V: Held, R: Wait>(
     ensures turn { seat.new.me ≡ (record seat.old.me.0 { history = Some (V.journal result) }, (0, None) ∷ []) }
     ensures value { (V.limit result ≡ seat.old.me.0.limit) × (V.setting result ≡ seat.old.me.0.setting) }
     ensures seen { StartsWith (V.journal result) seat.old.me.0.seen }
+    ensures later { seat.old.me.0.last_turn ≤ ticket }
     ensures room { length (V.journal result) ≤ V.limit result }
 {
     let backoff = Backoff::new();
@@ -122,7 +123,7 @@ pub(crate) fn pass_turn<V: Held>(table: &GateTable<V>, seat: &mut TableSeat<V>, 
     requires holds { HoldsHistory V.journal V.limit V.setting ticket seat.old.me }
     requires small { ticket + 1 < 2 ^ 64 }
     ensures table { (seat.new.table_id ≡ seat.old.table_id) × (seat.new.id ≡ seat.old.id) }
-    ensures passed { seat.new.me ≡ (after_turn (journal_held V.journal seat.old.me.1) seat.old.me.0, []) }
+    ensures passed { seat.new.me ≡ (after_turn (ticket + 1) (journal_held V.journal seat.old.me.1) seat.old.me.0, []) }
 {
     table.store::<PassTurn>(seat, SERVING, ticket + 1);
 }

@@ -10,9 +10,11 @@ pub struct SeatView {
     // The turns that it passed, and those of the seats that were joined into it.
     pub turns: u64,
     pub joined_turns: u64,
+    // The turn by whose end it had seen what it has seen: turns of the gate are counted from 1, and 0 stands before the first.
+    pub last_turn: u64,
     // The beginning of the history that it has seen.
     pub seen: LinkedList<Event>,
-    // A beginning of the history that a seat had seen which was joined into it.
+    // The lesser of what two seats had seen that were joined last.
     pub told: LinkedList<Event>,
     // The numbers in the history of its own events, and of those of the seats that were joined into it.
     pub mine: LinkedList<u32>,

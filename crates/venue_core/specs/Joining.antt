@@ -1,5 +1,5 @@
 -- How seats are split and joined.
-use Rattle.std.specs.Prelude.{◌≡◌, ℕ, ◌+◌, ◌-◌, List, [], ◌∷◌, length}
+use Rattle.std.specs.Prelude.{◌≡◌, ℕ, ◌+◌, ◌-◌, max, List, [], ◌∷◌, length}
 use Rattle.std.specs.List.{All}
 use Rattle.turn_gate.specs.Numbers.{IncreasesWithin, merge_of}
 use Rattle.turn_gate.specs.Rule.{whole}
@@ -35,6 +35,7 @@ split_off seat = record seat { turns = 0; mine = []; part = 1 }
 -- a seat with another one joined into it
 abbrev pub after_join : SeatState → SeatState → SeatState
 after_join seat other = record seat {
+  last_turn = max seat.last_turn other.last_turn;
   seen = longer_of seat.seen other.seen;
   mine = merge_of seat.mine other.mine;
   part = seat.part + other.part;

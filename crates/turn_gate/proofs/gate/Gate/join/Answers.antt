@@ -1,6 +1,6 @@
 -- The join and the comparison after it keep the rule.
-use Rattle.std.proofs.Common.{rules, ◌≡◌, [], ◌∷◌, ◌≤◌, length, sym, subst}
-use Rattle.turn_gate.proofs.AtRest.{at_rest, told_shorter}
+use Rattle.std.proofs.Common.{rules, ◌≡◌, [], ◌∷◌, ◌<◌, sym, subst, arith}
+use Rattle.turn_gate.proofs.AtRest.{at_rest}
 use Rattle.turn_gate.proofs.SeatSteps.{joins, compares}
 use Rattle.turn_gate.specs.Steps.{SeatAndSlot}
 use Rattle.turn_gate.proofs.gate.Gate.join.Goals as goal
@@ -14,9 +14,10 @@ join_seat-requires g c =
     (search rules, search rules, search rules, search rules, joins _ _ _ _ _ _ _ _ r.part q.part r.ticket r.history q.history)
 
 pub load-requires : goal.load-requires
-load-requires g c = (
-  search rules,
-  search rules,
-  compares _ _ _ _ _ _ _
-      (subst (λ (m : SeatAndSlot g.row.V.Denot). length m.0.told ≤ length m.0.seen) (sym c.join_seat.ensures.2) (told_shorter c.into_seat-table_seat.result.me.0 c.into_seat.result.me.0)),
-)
+load-requires g c =
+    let only : c.seat.inside.badge.views ≡ c.into_seat-table_seat.result.me.0 ∷ [] = (cc) in
+    let r = at_rest c.seat.inside.badge.views c.into_seat-table_seat.result.me.0 c.seat.invariant only in (
+      search rules,
+      search rules,
+      compares _ _ _ _ _ _ _ (subst (λ (m : SeatAndSlot g.row.V.Denot). 0 < m.0.part) (sym c.join_seat.ensures.2) (omega (arith, r.part))),
+    )

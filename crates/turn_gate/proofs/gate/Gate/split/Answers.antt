@@ -10,4 +10,4 @@ split_seat-new-requires g c =
     let only : c.seat.inside.badge.views ≡ c.into_seat-table_seat.result.me.0 ∷ [] = (cc) in
     let r = at_rest c.seat.inside.badge.views c.into_seat-table_seat.result.me.0 c.seat.invariant only in
     let p = ap (λ (p : SeatState). p.part) (state_is _ c.seat.inside.badge.views c.into_seat-table_seat.result.me.0 _ c.seat.view_is only) in
-    (search rules, search rules, splits _ _ _ _ _ _ (omega arith) r.opening)
+    (search rules, search rules, splits _ _ _ _ _ _ (omega arith) r.opening r.history)
