@@ -95,7 +95,7 @@ all_same config symbol m (event ∷ events) old news before of =
     ap (λ (x : List Report). event_text config symbol event x ++ flat_map (λ event. event_text config symbol event (reports_for event (old ++ news))) events) here
     ∙ ap (λ (x : List ℕ). event_text config symbol event (reports_for event old) ++ x) more
 
-last_own : (event : Event) (old news : List Report) → AllByRecursion (IsBefore event.number) old → AllByRecursion (IsOf event.number) news
+pub last_own : (event : Event) (old news : List Report) → AllByRecursion (IsBefore event.number) old → AllByRecursion (IsOf event.number) news
     → reports_for event (old ++ news) ≡ news
 last_own event old news before of =
     filter-append (λ report. report.event == event.number) old news

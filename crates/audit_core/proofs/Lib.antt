@@ -7,3 +7,7 @@ pub mod Passing
 pub mod Standing
 pub mod Taking
 pub mod Working
+pub mod Saying
+pub mod Fronting
+pub mod Hearing
+pub mod Erring

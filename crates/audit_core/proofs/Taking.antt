@@ -1,5 +1,5 @@
 -- The line that comes next is taken, and any other is refused.
-use Rattle.std.proofs.Common.{◌≡◌, ℕ, ◌+◌, true, false, List, [], ◌∷◌, ◌++◌, length, drop, Option, Some, None, refl, sym, ◌∙◌, ap, subst, arith}
+use Rattle.std.proofs.Common.{◌≡◌, ℕ, ◌+◌, Bool, true, false, if◌then◌else◌, List, [], ◌∷◌, ◌++◌, length, drop, Option, Some, None, refl, sym, ◌∙◌, ap, subst, append_assoc, arith}
 use Rattle.venue_words.specs.Conditions.{IsConfig}
 use Rattle.venue_words.specs.declared.config.Config.{Config}
 use Rattle.venue_words.specs.declared.command.Event.{Event}
@@ -13,17 +13,39 @@ use Rattle.audit_core.specs.declared.part.OpenPart.{OpenPart}
 use Rattle.audit_core.specs.Audited.{IsListing}
 use Rattle.audit_core.specs.Names.{has_line_names}
 use Rattle.audit_core.specs.Ahead.{CountsAre, Completes, CompletesFrom, GoesOn, Awaits, Takes, Refuses, with_part}
-use Rattle.audit_core.specs.Progress.{Auditing, IsOpen, Works, Grows, HasRead, Stands, report_lines}
+use Rattle.audit_core.specs.Progress.{Auditing, IsOpen, Works, Grows, HasRead, Stands, report_lines, is_read, behind_part, end_text}
+use Rattle.audit_core.specs.Telling.{Telling}
 use Rattle.audit_core.proofs.Coming.{SymbolComes, symbol_comes, report_expected, report_comes, EventComes, event_comes}
-use Rattle.audit_core.proofs.Standing.{symbol_stands, report_stands, event_stands}
+use Rattle.audit_core.proofs.Standing.{symbol_stands, report_stands, event_stands, part_behind, read_of, read_is}
+use Rattle.audit_core.proofs.Awaiting.{part_awaited}
 
 pub some_is : {A : Type 0} (x y : A) → Some x ≡ Some y → x ≡ y
 some_is x y e = cc
 
--- what was read of a part stands in the auditor, and what completes it is awaited
-pub record Opens (old new : Auditing) (part : OpenPart) : Type 0 where
-  pub stands : (text : List ℕ) → Stands old.config old.symbol (Some part) text → HasRead new text
+-- what was read of a part stands in the auditor, which told this more, and what completes it is awaited
+pub record Opens (telling : Telling) (old new : Auditing) (part : OpenPart) (told : List ℕ) : Type 0 where
+  pub stands : (text said : List ℕ) → Stands telling old.config old.symbol (Some part) text said → HasRead telling new text (said ++ told)
   pub awaited : (more : List ℕ) → Completes old.config old.symbol part more → Awaits new more
+
+awaited_behind : (config : Config) (symbol : ℕ) (part : OpenPart) (more : List ℕ) → IsOpen config symbol part → Completes config symbol part more
+    → Awaits (behind_part config symbol part) more
+awaited_behind config symbol part more opened completes = by_case (is_read part) refl
+  where
+    by_case : (b : Bool) → is_read part ≡ b
+        → Awaits (if b then (record { config = config; symbol = symbol + 1; part = None }) else (record { config = config; symbol = symbol; part = Some part })) more
+    by_case true is = part_awaited config symbol part more (read_of part opened.told is) completes
+    by_case false is = (completes, λ read. let never : true ≡ false = sym (read_is part read) ∙ is in absurd (cc))
+
+-- so they do behind the part
+pub opens_behind : (telling : Telling) (old new : Auditing) (part : OpenPart) → IsOpen old.config old.symbol part → new ≡ behind_part old.config old.symbol part
+    → Opens telling old new part (end_text telling old.config old.symbol part)
+opens_behind telling old new part opened is = record {
+  stands = λ text said stands.
+      subst (λ (a : Auditing). HasRead telling a text (said ++ end_text telling old.config old.symbol part)) (sym is)
+      (part_behind telling old.config old.symbol part text said opened stands);
+  awaited = λ more completes.
+      subst (λ (a : Auditing). Awaits a more) (sym is) (awaited_behind old.config old.symbol part more opened completes);
+}
 
 pub awaits_at_start : (config : Config) (text : List ℕ) → IsListing config text → CompletesFrom config 0 text
 awaits_at_start config text is = record { parts = is.parts; each = omega (arith, is.each); made = is.made; spelled = is.spelled }
@@ -33,8 +55,9 @@ awaits_at_start config text is = record { parts = is.parts; each = omega (arith,
 between_parts : (old : Auditing) (text : List ℕ) → old.part ≡ None → Awaits old text → CompletesFrom old.config old.symbol text
 between_parts old text none awaits = subst (λ (part : Option OpenPart). GoesOn old.config old.symbol part text) none awaits
 
-read_parts : (old : Auditing) (text : List ℕ) → old.part ≡ None → HasRead old text → Stands old.config old.symbol None text
-read_parts old text none has = subst (λ (part : Option OpenPart). Stands old.config old.symbol part text) none has
+read_parts : (telling : Telling) (old : Auditing) (text said : List ℕ) → old.part ≡ None → HasRead telling old text said
+    → Stands telling old.config old.symbol None text said
+read_parts telling old text said none has = subst (λ (part : Option OpenPart). Stands telling old.config old.symbol part text said) none has
 
 -- the part behind the line of a symbol
 pub record IsNew (old : Auditing) (part : OpenPart) (text : List ℕ) : Type 0 where
@@ -46,11 +69,13 @@ pub record IsNew (old : Auditing) (part : OpenPart) (text : List ℕ) : Type 0 w
       → symbol_line (name_at old.config.symbols old.symbol) events reports ≡ text
       → Some part.counts ≡ Some (record { events = events; reports = reports })
 
-pub symbol_takes : (old new : Auditing) (part : OpenPart) (text : List ℕ) → ReportsAreFew → IsConfig old.config → has_line_names old.config ≡ true
-    → has_end text ≡ false → old.part ≡ None → IsNew old part text → Opens old new part → Takes old new text
-symbol_takes old new part text are_few is names clear none made opens = record {
-  read = λ before has.
-      opens.stands (before ++ ended text) (symbol_stands old.config old.symbol part before text made.told made.journal made.reports made.line (read_parts old before none has));
+pub symbol_takes : (telling : Telling) (old new : Auditing) (part : OpenPart) (text told : List ℕ) → ReportsAreFew → IsConfig old.config
+    → has_line_names old.config ≡ true → has_end text ≡ false → old.part ≡ None → IsNew old part text → Opens telling old new part told
+    → Takes telling old new text told
+symbol_takes telling old new part text told are_few is names clear none made opens = record {
+  read = λ before said has.
+      opens.stands (before ++ ended text) said
+      (symbol_stands telling old.config old.symbol part before said text made.told made.journal made.reports made.line (read_parts telling old before said none has));
   awaited = λ more awaits.
       let comes = symbol_comes old.config old.symbol text more are_few is names clear (between_parts old (ended text ++ more) none awaits) in
       let counts : part.counts ≡ comes.counts = some_is _ _ (made.only comes.counts.events comes.counts.reports comes.few comes.short comes.line) in
@@ -66,18 +91,18 @@ symbol_refuses old text are_few is names clear none never = record {
 
 -- ---- the line of a report
 
-pub report_takes : (old new : Auditing) (part next : OpenPart) (line text : List ℕ)
+pub report_takes : (telling : Telling) (old new : Auditing) (part next : OpenPart) (line text told : List ℕ)
     → next.book ≡ part.book → next.counts ≡ part.counts → next.told ≡ part.told + 1
     → report_lines old.config old.symbol (drop part.told part.book.reports) ≡ ended line ++ report_lines old.config old.symbol (drop (part.told + 1) part.book.reports)
-    → line ≡ text → has_end text ≡ false → Opens old new next → Takes (with_part old part) new text
-report_takes old new part next line text book counts told lines same clear opens =
+    → line ≡ text → has_end text ≡ false → Opens telling old new next told → Takes telling (with_part old part) new text told
+report_takes telling old new part next line text told book counts next_told lines same clear opens =
     let clear_line : has_end line ≡ false = ap has_end same ∙ clear in
     let told_lines : report_lines old.config old.symbol (drop part.told part.book.reports) ≡ ended text ++ report_lines old.config old.symbol (drop next.told part.book.reports) =
-    rw (told, ← same) lines in record {
-      read = λ before has.
-          opens.stands (before ++ ended text) (report_stands old.config old.symbol part next before text book counts told_lines has);
+    rw (next_told, ← same) lines in record {
+      read = λ before said has.
+          opens.stands (before ++ ended text) said (report_stands telling old.config old.symbol part next before said text book counts told_lines has);
       awaited = λ more awaits.
-          opens.awaited more (report_comes old.config old.symbol part next line text more book counts told lines clear_line clear awaits.0).1;
+          opens.awaited more (report_comes old.config old.symbol part next line text more book counts next_told lines clear_line clear awaits.0).1;
     }
 
 pub report_refuses : (old : Auditing) (part : OpenPart) (line text : List ℕ)
@@ -104,13 +129,16 @@ comes_next : (old : Auditing) (part : OpenPart) (text more : List ℕ) → IsTol
 comes_next old part text more is awaits =
     event_comes is.in_order old.config old.symbol part text more is.names is.opened is.told is.clear awaits.1 awaits.0
 
-pub event_takes : (old new : Auditing) (part next : OpenPart) (event : Event) (text : List ℕ) → IsTold old part text
+pub event_takes : (telling : Telling) (old new : Auditing) (part next : OpenPart) (event : Event) (text told : List ℕ) → IsTold old part text
     → event_line old.config old.symbol event ≡ text
     → ((other : Event) → fits_event old.config other ≡ true → event_line old.config old.symbol other ≡ text → Some event ≡ Some other)
-    → Works part next event → Grows old.config old.symbol part next event → Opens old new next → Takes (with_part old part) new text
-event_takes old new part next event text is line only works grows opens = record {
-  read = λ before has.
-      opens.stands (before ++ ended text) (event_stands old.config old.symbol part next event before text is.told line grows has);
+    → Works part next event → Grows old.config old.symbol part next event → Opens telling old new next told
+    → Takes telling (with_part old part) new text (telling.event old.config old.symbol next.book.journal ++ told)
+event_takes telling old new part next event text told is line only works grows opens = record {
+  read = λ before said has.
+      subst (HasRead telling new (before ++ ended text)) (append_assoc said (telling.event old.config old.symbol next.book.journal) told)
+      (opens.stands (before ++ ended text) (said ++ telling.event old.config old.symbol next.book.journal)
+      (event_stands telling old.config old.symbol part next event before said text is.told line works.journal grows has));
   awaited = λ more awaits.
       let comes = comes_next old part text more is awaits in
       let same : event ≡ comes.event = some_is _ _ (only comes.event comes.fits comes.line) in

@@ -1,5 +1,5 @@
 -- How far a listing was read.
-use Rattle.std.specs.Prelude.{◌≡◌, ◌≤◌, ◌<◌, ℕ, ◌+◌, ◌==◌, nat_lt, nat_le, Bool, ◌&&◌, ◌||◌, true, List, [], ◌∷◌, ◌++◌, length, drop, Option, Some, None}
+use Rattle.std.specs.Prelude.{◌≡◌, ◌≤◌, ◌<◌, ℕ, ◌+◌, ◌==◌, nat_lt, nat_le, Bool, ◌&&◌, ◌||◌, if◌then◌else◌, true, List, [], ◌∷◌, ◌++◌, length, drop, Option, Some, None}
 use Rattle.std.specs.List.{AllByRecursion, flat_map}
 use Rattle.venue_words.specs.declared.config.Config.{Config}
 use Rattle.venue_words.specs.declared.command.Event.{Event}
@@ -11,6 +11,7 @@ use Rattle.listing.specs.Listing.{Part, listing, reports_for, event_text}
 use Rattle.listing_reader.specs.Fitting.{fits_event}
 use Rattle.audit_core.specs.declared.part.OpenPart.{OpenPart}
 use Rattle.audit_core.specs.Audited.{limit_at, tick_at, run_of, AreParts}
+use Rattle.audit_core.specs.Telling.{Telling, day_text, events_text}
 
 -- the lines of reports
 abbrev pub report_lines : Config → ℕ → List Report → List ℕ
@@ -41,20 +42,32 @@ ReadsPart config symbol None text = text ≡ []
 ReadsPart config symbol (Some part) text =
     text ++ report_lines config symbol (drop part.told part.book.reports) ≡ part_front config symbol part
 
--- a text was read up to the part of this symbol
-pub record Stands (config : Config) (symbol : ℕ) (part : Option OpenPart) (text : List ℕ) : Type 0 where
+-- the events of a part that were read
+abbrev pub journal_in : Option OpenPart → List Event
+journal_in None = []
+journal_in (Some part) = part.book.journal
+
+-- a text was read up to the part of this symbol, and this was told of it
+pub record Stands (telling : Telling) (config : Config) (symbol : ℕ) (part : Option OpenPart) (text told : List ℕ) : Type 0 where
   pub parts : List Part
   pub behind : List ℕ
   pub count : length parts ≡ symbol
   pub made : AreParts config 0 parts
   pub reads : ReadsPart config symbol part behind
   pub whole : text ≡ listing config parts ++ behind
+  pub tells : told ≡ day_text telling config parts ++ events_text telling config symbol [] (journal_in part)
 
 -- all that the symbol's line counts was read
 pub record IsRead (part : OpenPart) : Type 0 where
   pub events : length part.book.journal ≡ part.counts.events
   pub reports : length part.book.reports ≡ part.counts.reports
   pub told : part.told ≡ length part.book.reports
+
+-- whether all that the symbol's line counts was read
+abbrev pub is_read : OpenPart → Bool
+is_read part =
+    ((length part.book.journal == part.counts.events) && (length part.book.reports == part.counts.reports))
+    && (part.told == part.counts.reports)
 
 -- an event came behind those that there were, and its reports are still to come
 pub record Grows (config : Config) (symbol : ℕ) (old new : OpenPart) (event : Event) : Type 0 where
@@ -85,9 +98,20 @@ abbrev pub OpenIf : Config → ℕ → Option OpenPart → Type 0
 OpenIf config symbol None = Unit {0}
 OpenIf config symbol (Some part) = IsOpen config symbol part
 
--- these bytes were read
-abbrev pub HasRead : Auditing → List ℕ → Type 0
-HasRead auditing text = Stands auditing.config auditing.symbol auditing.part text
+-- these bytes were read, and this was told of them
+abbrev pub HasRead : Telling → Auditing → List ℕ → List ℕ → Type 0
+HasRead telling auditing text told = Stands telling auditing.config auditing.symbol auditing.part text told
+
+-- behind a line of a part: where all of it was read, the next one follows
+abbrev pub behind_part : Config → ℕ → OpenPart → Auditing
+behind_part config symbol part =
+    if is_read part
+    then (record { config = config; symbol = symbol + 1; part = None })
+    else (record { config = config; symbol = symbol; part = Some part })
+
+-- what is told there
+abbrev pub end_text : Telling → Config → ℕ → OpenPart → List ℕ
+end_text telling config symbol part = if is_read part then telling.end config symbol part.book.journal else []
 
 -- whether the counts of the symbol's line allow the events and the reports that there are
 abbrev pub is_allowed : OpenPart → Bool

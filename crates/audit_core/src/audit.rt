@@ -1,5 +1,6 @@
 //! An audit of a listing by its files.
-ghost use Rattle.std.specs.Prelude.{◌≡◌, ◌≤◌, ◌<◌, ◌⊎◌, ℕ, List, Option, false, length, Ok, Err, IfSome};
+ghost use Rattle.std.specs.Prelude.{◌≡◌, ◌≢◌, ◌≤◌, ◌<◌, ◌⊎◌, ℕ, List, Option, false, length, Ok, Err, IfSome, IsErr, IsNone, IsTrue};
+ghost use Rattle.io_edge.specs.Files.{HasFile, file_named};
 ghost use Rattle.venue_words.specs.Causes.{Rose};
 ghost use Rattle.line_reader.specs.declared.config_file.ConfigFault.TheVariants as config_fault;
 ghost use Rattle.line_reader.specs.declared.config_file.ConfigFault.{ConfigFault};
@@ -10,8 +11,9 @@ ghost use Rattle.audit_core.specs.Differing.{DiffersAt, IsLongLine};
 ghost use Rattle.audit_core.specs.Names.{has_line_names};
 ghost use Rattle.audit_core.specs.declared.verdict.TheConstants.{MAX_LISTING_BYTES};
 
+use crate::following::verify;
 use crate::names::has_line_names;
-use crate::verdict::{AuditFault, Verdict, verify};
+use crate::verdict::{AuditFault, Verdict};
 use io_edge::Shelf;
 use line_reader::{ConfigFault, read_config};
 use listing_reader::has_word_names;
@@ -64,10 +66,19 @@ pub fn audit<H: Shelf, L: Ledger>(
         OfText all files.entry.listing.now (λ text. IsLongLine text line)) }
     ensures large { result ≡ Err (AuditRefusal.Listing AuditFault.TooLarge) → IfSome (H.told shelf.old) (λ all.
         OfText all files.entry.listing.now (λ text. MAX_LISTING_BYTES < length text)) }
+    ensures missing { IfSome (H.told shelf.old) (λ all. IsNone (file_named all files.entry.config.now) →
+        (result ≡ Err (AuditRefusal.Config config_fault.ReadFault)) ⊎ (result ≡ Err (AuditRefusal.Config config_fault.NoMemory))) }
+    ensures missing_listing { IfSome (H.told shelf.old) (λ all. IsNone (file_named all files.entry.listing.now) → IsErr result) }
+    ensures quiet { result ≢ Err (AuditRefusal.Listing AuditFault.WriteFault) }
     ensures told { H.told shelf.new ≡ H.told shelf.old }
     ensures later { H.faults shelf.old ≤ H.faults shelf.new }
     ensures config_fault { result ≡ Err (AuditRefusal.Config config_fault.ReadFault) → Rose (H.faults shelf.old) (H.faults shelf.new) }
     ensures listing_fault { result ≡ Err (AuditRefusal.Listing AuditFault.ReadFault) → Rose (H.faults shelf.old) (H.faults shelf.new) }
+    ensures sure { IsTrue (H.sure shelf.old) → IsTrue (H.sure shelf.new) }
+    ensures sure_config { IsTrue (H.sure shelf.old) → HasFile (H.told shelf.old) files.entry.config.now →
+        result ≢ Err (AuditRefusal.Config config_fault.ReadFault) }
+    ensures sure_listing { IsTrue (H.sure shelf.old) → HasFile (H.told shelf.old) files.entry.listing.now →
+        result ≢ Err (AuditRefusal.Listing AuditFault.ReadFault) }
 {
     let config = match read_config(alloc, shelf, files.config, MAX_CONFIG_BYTES) {
         Ok(file) => file.config,

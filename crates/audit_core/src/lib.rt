@@ -2,11 +2,15 @@
 #![tactic(auto)]
 
 pub mod audit;
+mod following;
 mod names;
 mod part;
 mod reading;
 mod verdict;
+mod watch;
 
 pub use audit::{AuditFiles, AuditRefusal};
+pub use following::{follow, verify};
 pub use names::has_line_names;
-pub use verdict::{AuditFault, Verdict, verify};
+pub use verdict::{AuditFault, Verdict};
+pub use watch::{Silent, Watch, WatchFault};

@@ -9,7 +9,7 @@ ghost use Rattle.listing_reader.specs.Fitting.{fits_event};
 ghost use Rattle.audit_core.specs.Audited.{limit_at};
 ghost use Rattle.audit_core.specs.Ahead.{CountsAre};
 ghost use Rattle.audit_core.specs.Names.{has_line_names};
-ghost use Rattle.audit_core.specs.Progress.{IsOpen, IsRead, Grows, Works, is_allowed, report_lines};
+ghost use Rattle.audit_core.specs.Progress.{IsOpen, IsRead, Grows, Works, is_allowed, is_read, report_lines};
 
 use listing::{push_report_line, runs_are_in_order};
 use listing_reader::Counts;
@@ -79,6 +79,7 @@ impl OpenPart {
 
     /// Whether all that the symbol's line counts was read.
     pub fn is_whole(&self) -> bool
+        ensures value { result ≡ is_read self.now }
         ensures read { IsTrue result → IsRead self.now }
         ensures more { result ≡ false → IsRead self.now → ⊥ }
     {

@@ -1,20 +1,22 @@
 //! Lines of a listing, one after the other.
-ghost use Rattle.std.specs.Prelude.{◌≡◌, ◌≤◌, ◌<◌, ◌⊎◌, ℕ, Option, List, [], true, false, None, Some, length, IfOk, IsTrue};
+ghost use Rattle.std.specs.Prelude.{◌≡◌, ◌≤◌, ◌<◌, ◌⊎◌, ℕ, List, [], true, false, None, length, IsTrue, MatchResult};
 ghost use Rattle.venue_words.specs.Conditions.{IsConfig};
 ghost use Rattle.script_text.specs.Lines.{has_end};
 ghost use Rattle.listing_reader.specs.Fitting.{has_word_names};
 ghost use Rattle.audit_core.specs.Audited.{IsListing, limit_at};
-ghost use Rattle.audit_core.specs.Ahead.{IsAt, Awaits, Completes, Takes, Refuses, at, with_part};
+ghost use Rattle.audit_core.specs.Ahead.{Awaits, GoesBehind, IsAt, IsHeard, Sees, StopsIn, at, with_part};
 ghost use Rattle.audit_core.specs.Names.{has_line_names};
-ghost use Rattle.audit_core.specs.Progress.{IsOpen, HasRead, Stands};
+ghost use Rattle.audit_core.specs.Progress.{IsOpen, HasRead, end_text};
+ghost use Rattle.audit_core.specs.Telling.{Begins, HasPutCause, Lists, Telling};
 
 use crate::part::OpenPart;
+use crate::watch::{Watch, WatchFault};
 use listing::runs_are_in_order;
 use listing_reader::{Counts, read_event, read_symbol};
 use market_laws::reports_are_few;
 use std::alloc::Global;
 use std::sync::ledger::Ledger;
-use venue_words::{Bytes, Config, NoMemory, Steps};
+use venue_words::{Bytes, Config, Steps};
 
 /// What a line is where it stands.
 #[derive(Debug, Drop)]
@@ -28,6 +30,7 @@ pub enum Seen {
 /// How far the lines of a listing were read.
 #[derive(Drop)]
 pub struct Auditor {
+    alloc: Global,
     /// The symbol whose part is read, or comes next.
     pub symbol: u32,
     /// Its part, once its line was read.
@@ -37,16 +40,18 @@ pub struct Auditor {
 impl Auditor {
     /// Before the first line.
     #[tactic(auto, using(crate::proofs::Standing::stands_at_start, crate::proofs::Taking::awaits_at_start))]
-    pub fn new(config: &Config) -> Auditor
+    pub fn new(alloc: Global, config: &Config) -> Auditor
         requires config { IsConfig config.now }
         requires words { has_word_names config.now ≡ true }
         requires lines { has_line_names config.now ≡ true }
         ensures at { IsAt config.now result }
-        ensures none { HasRead (at config.now result) [] }
+        ensures first { (result.symbol ≡ 0) × (result.part ≡ None) }
+        ensures none { (telling : Telling) → HasRead telling (at config.now result) [] [] }
         ensures awaited { (text : List ℕ) → IsListing config.now text → Awaits (at config.now result) text }
     {
         let _symbols = config.symbols.len();
         Auditor {
+            alloc,
             symbol: 0,
             part: None,
         }
@@ -56,7 +61,8 @@ impl Auditor {
     #[tactic(auto, using(crate::proofs::Standing::whole_listing))]
     pub fn is_whole(&self, config: &Config) -> bool
         requires { IsAt config.now self.now }
-        ensures whole { IsTrue result → (text : List ℕ) → HasRead (at config.now self.now) text → IsListing config.now text }
+        ensures whole { IsTrue result → (telling : Telling) (text told : List ℕ) → HasRead telling (at config.now self.now) text told →
+            Lists telling config.now text told }
         ensures awaited { (rest : List ℕ) → has_end rest ≡ false → Awaits (at config.now self.now) rest → IsTrue result × (rest ≡ []) }
     {
         match self.part {
@@ -65,70 +71,86 @@ impl Auditor {
         }
     }
 
-    /// The part that is read; where all of it was read, the next one follows.
-    fn go_on(&mut self, config: &Config, part: OpenPart)
+    /// The part that is read; where all of it was read its end is told, and the next one follows.
+    fn go_on<W: Watch>(
+        &mut self,
+        config: &Config,
+        part: OpenPart,
+        watch: &mut W,
+    ) -> Result<(), WatchFault>
         requires at { IsAt config.now self.old }
         requires open { IsOpen config.now self.old.symbol part }
-        ensures at { IsAt config.now self.new }
-        ensures stands { (text : List ℕ) → Stands config.now self.old.symbol (Some part) text → HasRead (at config.now self.new) text }
-        ensures awaited { (more : List ℕ) → Completes config.now self.old.symbol part more → Awaits (at config.now self.new) more }
+        requires heard { W.heard watch.old config.now self.old.symbol part.book.journal }
+        ensures goes { MatchResult result
+            (λ _. GoesBehind W.tells (W.heard watch.new) config.now self.old.symbol part self.new (W.output watch.old) (W.output watch.new))
+            (λ _. Begins (W.output watch.old) (W.output watch.new) (end_text W.tells config.now self.old.symbol part)) }
+        ensures cause { HasPutCause (W.faults watch.old) (W.faults watch.new) result }
     {
         let _symbols = config.symbols.len();
         if part.is_whole() {
+            watch.on_end(config, self.symbol, &part.book)?;
             self.part = None;
             self.symbol += 1;
         } else {
             self.part = Some(part);
         }
+        Ok(())
     }
 
     /// The line of a symbol.
-    fn symbol_line(&mut self, alloc: Global, config: &Config, text: &[u8]) -> Result<Seen, NoMemory>
+    fn symbol_line<W: Watch>(
+        &mut self,
+        config: &Config,
+        text: &[u8],
+        watch: &mut W,
+    ) -> Result<Seen, WatchFault>
         requires at { IsAt config.now self.old }
         requires none { self.old.part ≡ None }
+        requires heard { W.heard watch.old config.now self.old.symbol [] }
         requires clear { has_end text.now ≡ false }
-        ensures at { IfOk result (λ seen. seen ≡ Seen.Same → IsAt config.now self.new) }
-        ensures same { IfOk result (λ seen. seen ≡ Seen.Same → Takes (at config.now self.old) (at config.now self.new) text.now) }
-        ensures differs { IfOk result (λ seen. (expected : Option (List ℕ)) → seen ≡ Seen.Differs expected →
-            Refuses (at config.now self.old) text.now expected) }
+        ensures sees { MatchResult result
+            (λ seen. Sees W.tells (W.heard watch.new) config.now (at config.now self.old) self.new text.now (W.output watch.old) (W.output watch.new) seen)
+            (λ _. StopsIn W.tells (at config.now self.old) text.now (W.output watch.old) (W.output watch.new)) }
+        ensures cause { HasPutCause (W.faults watch.old) (W.faults watch.new) result }
     {
         reports_are_few();
         if self.symbol as usize >= config.symbols.len() {
             return Ok(Seen::Differs { expected: None });
         }
-        let Some(counts) = read_symbol(alloc, text, config, self.symbol)? else {
+        let Some(counts) = read_symbol(self.alloc, text, config, self.symbol)? else {
             return Ok(Seen::Differs { expected: None });
         };
         if !has_room(config, self.symbol, counts) {
             return Ok(Seen::Differs { expected: None });
         }
-        let part = OpenPart::new(alloc, config, self.symbol, counts)?;
-        self.go_on(config, part);
+        let part = OpenPart::new(self.alloc, config, self.symbol, counts)?;
+        self.go_on(config, part, watch)?;
         Ok(Seen::Same)
     }
 
     /// The line of a report.
-    fn report_line(
+    fn report_line<W: Watch>(
         &mut self,
-        alloc: Global,
         config: &Config,
         part: OpenPart,
         text: &[u8],
-    ) -> Result<Seen, NoMemory>
+        watch: &mut W,
+    ) -> Result<Seen, WatchFault>
         requires at { IsAt config.now self.old }
         requires open { IsOpen config.now self.old.symbol part }
         requires more { part.told < length part.book.reports }
+        requires heard { W.heard watch.old config.now self.old.symbol part.book.journal }
         requires clear { has_end text.now ≡ false }
-        ensures at { IfOk result (λ seen. seen ≡ Seen.Same → IsAt config.now self.new) }
-        ensures same { IfOk result (λ seen. seen ≡ Seen.Same → Takes (with_part (at config.now self.old) part) (at config.now self.new) text.now) }
-        ensures differs { IfOk result (λ seen. (expected : Option (List ℕ)) → seen ≡ Seen.Differs expected →
-            Refuses (with_part (at config.now self.old) part) text.now expected) }
+        ensures sees { MatchResult result
+            (λ seen. Sees W.tells (W.heard watch.new) config.now (with_part (at config.now self.old) part) self.new text.now (W.output watch.old) (W.output watch.new) seen)
+            (λ _. StopsIn W.tells (with_part (at config.now self.old) part) text.now (W.output watch.old) (W.output watch.new)) }
+        ensures cause { HasPutCause (W.faults watch.old) (W.faults watch.new) result }
     {
-        let line = part.report_text(alloc, config, self.symbol)?;
+        let line = part.report_text(self.alloc, config, self.symbol)?;
         let _reports = part.book.front();
         if line.as_slice() == text {
             let told = part.told + 1;
-            self.go_on(config, OpenPart { told, ..part });
+            self.go_on(config, OpenPart { told, ..part }, watch)?;
             Ok(Seen::Same)
         } else {
             Ok(Seen::Differs {
@@ -138,53 +160,57 @@ impl Auditor {
     }
 
     /// The line of an event.
-    fn event_line<L: Ledger>(
+    fn event_line<W: Watch, L: Ledger>(
         &mut self,
-        alloc: Global,
         config: &Config,
         mut part: OpenPart,
         text: &[u8],
+        watch: &mut W,
         steps: &mut Steps<L>,
-    ) -> Result<Seen, NoMemory>
+    ) -> Result<Seen, WatchFault>
         requires at { IsAt config.now self.old }
         requires open { IsOpen config.now self.old.symbol part }
         requires told { part.told ≡ length part.book.reports }
+        requires heard { W.heard watch.old config.now self.old.symbol part.book.journal }
         requires clear { has_end text.now ≡ false }
-        ensures at { IfOk result (λ seen. seen ≡ Seen.Same → IsAt config.now self.new) }
-        ensures same { IfOk result (λ seen. seen ≡ Seen.Same → Takes (with_part (at config.now self.old) part) (at config.now self.new) text.now) }
-        ensures differs { IfOk result (λ seen. (expected : Option (List ℕ)) → seen ≡ Seen.Differs expected →
-            Refuses (with_part (at config.now self.old) part) text.now expected) }
+        ensures sees { MatchResult result
+            (λ seen. Sees W.tells (W.heard watch.new) config.now (with_part (at config.now self.old) part) self.new text.now (W.output watch.old) (W.output watch.new) seen)
+            (λ _. StopsIn W.tells (with_part (at config.now self.old) part) text.now (W.output watch.old) (W.output watch.new)) }
+        ensures cause { HasPutCause (W.faults watch.old) (W.faults watch.new) result }
     {
         runs_are_in_order();
-        let Some(event) = read_event(alloc, text, config, self.symbol)? else {
+        let Some(event) = read_event(self.alloc, text, config, self.symbol)? else {
             return Ok(Seen::Differs { expected: None });
         };
+        let from = part.told as usize;
         if !part.work(config, self.symbol, event, steps)? {
             return Ok(Seen::Differs { expected: None });
         }
-        self.go_on(config, part);
+        let made = &part.book.reports()[from..];
+        watch.on_event(config, self.symbol, &part.book, made)?;
+        self.go_on(config, part, watch)?;
         Ok(Seen::Same)
     }
 
     /// Reads the next line, which is given without its LF. The caller stops at one that differs, and at an error.
-    pub fn line<L: Ledger>(
+    pub fn line<W: Watch, L: Ledger>(
         &mut self,
-        alloc: Global,
         config: &Config,
         text: &[u8],
+        watch: &mut W,
         steps: &mut Steps<L>,
-    ) -> Result<Seen, NoMemory>
-        requires at { IsAt config.now self.old }
+    ) -> Result<Seen, WatchFault>
+        requires stands { IsHeard (W.heard watch.old) config.now self.old }
         requires clear { has_end text.now ≡ false }
-        ensures at { IfOk result (λ seen. seen ≡ Seen.Same → IsAt config.now self.new) }
-        ensures same { IfOk result (λ seen. seen ≡ Seen.Same → Takes (at config.now self.old) (at config.now self.new) text.now) }
-        ensures differs { IfOk result (λ seen. (expected : Option (List ℕ)) → seen ≡ Seen.Differs expected →
-            Refuses (at config.now self.old) text.now expected) }
+        ensures sees { MatchResult result
+            (λ seen. Sees W.tells (W.heard watch.new) config.now (at config.now self.old) self.new text.now (W.output watch.old) (W.output watch.new) seen)
+            (λ _. StopsIn W.tells (at config.now self.old) text.now (W.output watch.old) (W.output watch.new)) }
+        ensures cause { HasPutCause (W.faults watch.old) (W.faults watch.new) result }
     {
         match self.part.take() {
-            None => self.symbol_line(alloc, config, text),
-            Some(part) if part.has_report() => self.report_line(alloc, config, part, text),
-            Some(part) => self.event_line(alloc, config, part, text, steps),
+            None => self.symbol_line(config, text, watch),
+            Some(part) if part.has_report() => self.report_line(config, part, text, watch),
+            Some(part) => self.event_line(config, part, text, watch, steps),
         }
     }
 }

@@ -1,20 +1,17 @@
 //! Whether a file is the listing of journals.
-ghost use Rattle.std.specs.Prelude.{◌≡◌, ◌≢◌, ◌≤◌, ◌<◌, ◌+◌, ◌⊎◌, ℕ, List, Option, None, Some, Ok, Err, length, true, false, IfSome, IsNone, IsTrue};
-ghost use Rattle.io_edge.specs.Files.{HasFile, file_named};
+ghost use Rattle.std.specs.Prelude.{◌≡◌, ◌≢◌, ◌≤◌, ◌<◌, ◌+◌, ◌++◌, ℕ, List, [], Option, None, Some, Ok, Err, length, false, IfErr, IsTrue};
 ghost use Rattle.venue_words.specs.Causes.{Rose};
-ghost use Rattle.venue_words.specs.Conditions.{IsConfig};
 ghost use Rattle.script_text.specs.Lines.{has_end};
 ghost use Rattle.line_reader.specs.Reading.{ahead};
-ghost use Rattle.listing_reader.specs.Fitting.{has_word_names};
-ghost use Rattle.audit_core.specs.Audited.{IsListing};
-ghost use Rattle.audit_core.specs.Ahead.{Awaits, EndsListing, IsAt, ReadsOn, at};
+ghost use Rattle.audit_core.specs.Ahead.{Awaits, EndsListing, IsAt, IsHeard, ReadsOn, Stops, TellsBefore, at};
 ghost use Rattle.audit_core.specs.Differing.{AtLine, DiffersAt, IsLongLine};
-ghost use Rattle.audit_core.specs.Names.{has_line_names};
+ghost use Rattle.audit_core.specs.Progress.{HasRead};
+ghost use Rattle.audit_core.specs.Telling.{Lists, Telling};
 
 use crate::reading::{Auditor, Seen};
+use crate::watch::{Watch, WatchFault};
 use io_edge::Shelf;
 use line_reader::{LineReader, NextLine};
-use std::alloc::Global;
 use std::sync::ledger::Ledger;
 use venue_words::{Bytes, Config, NoMemory, Steps};
 
@@ -40,6 +37,8 @@ pub enum AuditFault {
     TooLarge,
     /// This line, counted from 1, has more bytes than a line may have.
     LongLine { line: u32 },
+    /// What a watch was to tell could not be put.
+    WriteFault,
     /// Memory was wanted.
     NoMemory,
 }
@@ -72,7 +71,8 @@ fn verdict_at(seen: Seen, line: u32) -> Option<Verdict>
 fn verdict_at_end(auditor: &Auditor, config: &Config, rest: &[u8], line: u32) -> Verdict
     requires at { IsAt config.now auditor.now }
     requires clear { has_end rest.now ≡ false }
-    ensures same { result ≡ Verdict.Same → EndsListing (at config.now auditor.now) (Some rest.now) }
+    ensures same { result ≡ Verdict.Same → (telling : Telling) (read told : List ℕ) → HasRead telling (at config.now auditor.now) read told →
+        Lists telling config.now (read ++ rest.now) told }
     ensures differs { (number : ℕ) (expected : Option (List ℕ)) → result ≡ Verdict.Differs number expected →
         (number ≡ line) × (expected ≡ None) × (Awaits (at config.now auditor.now) rest.now → ⊥) }
 {
@@ -87,24 +87,30 @@ fn verdict_at_end(auditor: &Auditor, config: &Config, rest: &[u8], line: u32) ->
 }
 
 /// Reads the next line of the file that was begun, and gives the verdict where it is the last that is read.
-fn read_line<H: Shelf, L: Ledger>(
+fn read_line<H: Shelf, W: Watch, L: Ledger>(
     auditor: &mut Auditor,
-    alloc: Global,
     config: &Config,
     reader: &mut LineReader,
     shelf: &mut H,
+    watch: &mut W,
     steps: &mut Steps<L>,
 ) -> Result<Option<Verdict>, AuditFault>
-    requires at { IsAt config.now auditor.old }
+    requires stands { IsHeard (W.heard watch.old) config.now auditor.old }
     requires begun { IsTrue (H.begun shelf.old) }
     requires within { reader.old.bytes ≤ reader.old.most }
-    ensures at { result ≡ Ok None → IsAt config.now auditor.new }
-    ensures on { result ≡ Ok None → ReadsOn (at config.now auditor.old) (at config.now auditor.new) reader.old reader.new
-        (ahead reader.old.held (H.left shelf.old)) (ahead reader.new.held (H.left shelf.new)) }
-    ensures same { result ≡ Ok (Some Verdict.Same) → EndsListing (at config.now auditor.old) (ahead reader.old.held (H.left shelf.old)) }
+    ensures stands { result ≡ Ok None → IsHeard (W.heard watch.new) config.now auditor.new }
+    ensures on { result ≡ Ok None → ReadsOn W.tells (at config.now auditor.old) (at config.now auditor.new) reader.old reader.new
+        (ahead reader.old.held (H.left shelf.old)) (ahead reader.new.held (H.left shelf.new)) (W.output watch.old) (W.output watch.new) }
+    ensures same { result ≡ Ok (Some Verdict.Same) → EndsListing W.tells (at config.now auditor.old)
+        (ahead reader.old.held (H.left shelf.old)) (W.output watch.old) (W.output watch.new) }
     ensures differs { (line : ℕ) (expected : Option (List ℕ)) → result ≡ Ok (Some (Verdict.Differs line expected)) →
         AtLine reader.old.lines (ahead reader.old.held (H.left shelf.old)) line
         (λ text number. DiffersAt (Awaits (at config.now auditor.old)) text number expected) }
+    ensures tells { (line : ℕ) (expected : Option (List ℕ)) → result ≡ Ok (Some (Verdict.Differs line expected)) →
+        TellsBefore W.tells (at config.now auditor.old) reader.old.lines (ahead reader.old.held (H.left shelf.old)) line
+        (W.output watch.old) (W.output watch.new) }
+    ensures stops { IfErr result (λ _. Stops W.tells (at config.now auditor.old) (ahead reader.old.held (H.left shelf.old))
+        (W.output watch.old) (W.output watch.new)) }
     ensures long { (line : ℕ) → result ≡ Err (AuditFault.LongLine line) →
         AtLine reader.old.lines (ahead reader.old.held (H.left shelf.old)) line IsLongLine }
     ensures large { result ≡ Err AuditFault.TooLarge → (text : List ℕ) → ahead reader.old.held (H.left shelf.old) ≡ Some text →
@@ -113,8 +119,9 @@ fn read_line<H: Shelf, L: Ledger>(
     ensures within { result ≡ Ok None → (reader.old.bytes < reader.new.bytes) × (reader.new.bytes ≤ reader.old.most) }
     ensures told { H.told shelf.new ≡ H.told shelf.old }
     ensures begun { IsTrue (H.begun shelf.new) }
-    ensures later { H.faults shelf.old ≤ H.faults shelf.new }
+    ensures later { (H.faults shelf.old ≤ H.faults shelf.new) × (W.faults watch.old ≤ W.faults watch.new) }
     ensures fault { result ≡ Err AuditFault.ReadFault → Rose (H.faults shelf.old) (H.faults shelf.new) }
+    ensures put_fault { result ≡ Err AuditFault.WriteFault → Rose (W.faults watch.old) (W.faults watch.new) }
     ensures sure { IsTrue (H.sure shelf.old) → IsTrue (H.sure shelf.new) × (result ≢ Err AuditFault.ReadFault) }
 {
     let line = reader.lines() + 1;
@@ -123,8 +130,11 @@ fn read_line<H: Shelf, L: Ledger>(
             if is_over {
                 return Err(AuditFault::TooLarge);
             }
-            let seen = auditor.line(alloc, config, text, steps)?;
-            Ok(verdict_at(seen, line))
+            match auditor.line(config, text, watch, steps) {
+                Ok(seen) => Ok(verdict_at(seen, line)),
+                Err(WatchFault::WriteFault) => Err(AuditFault::WriteFault),
+                Err(WatchFault::NoMemory) => Err(AuditFault::NoMemory),
+            }
         }
         NextLine::End { rest } => Ok(Some(verdict_at_end(auditor, config, rest, line))),
         NextLine::TooLong => Err(AuditFault::LongLine { line }),
@@ -133,79 +143,40 @@ fn read_line<H: Shelf, L: Ledger>(
 }
 
 /// Reads the lines of the file that was begun.
-#[tactic(auto, using(crate::proofs::Passing::reads_none, crate::proofs::Passing::reads_more, crate::proofs::Passing::ends_later, crate::proofs::Passing::differs_at_later, crate::proofs::Passing::long_at_later, crate::proofs::Passing::large_later))]
-fn read_lines<H: Shelf, L: Ledger>(
+pub(crate) fn read_lines<H: Shelf, W: Watch, L: Ledger>(
     auditor: &mut Auditor,
-    alloc: Global,
     config: &Config,
     reader: &mut LineReader,
     shelf: &mut H,
+    watch: &mut W,
     steps: &mut Steps<L>,
 ) -> Result<Verdict, AuditFault>
-    requires at { IsAt config.now auditor.old }
+    requires stands { IsHeard (W.heard watch.old) config.now auditor.old }
     requires begun { IsTrue (H.begun shelf.old) }
     requires within { reader.old.bytes ≤ reader.old.most }
-    ensures same { result ≡ Ok Verdict.Same → EndsListing (at config.now auditor.old) (ahead reader.old.held (H.left shelf.old)) }
+    ensures same { result ≡ Ok Verdict.Same → EndsListing W.tells (at config.now auditor.old)
+        (ahead reader.old.held (H.left shelf.old)) (W.output watch.old) (W.output watch.new) }
     ensures differs { (line : ℕ) (expected : Option (List ℕ)) → result ≡ Ok (Verdict.Differs line expected) →
         AtLine reader.old.lines (ahead reader.old.held (H.left shelf.old)) line
         (λ text number. DiffersAt (Awaits (at config.now auditor.old)) text number expected) }
+    ensures tells { (line : ℕ) (expected : Option (List ℕ)) → result ≡ Ok (Verdict.Differs line expected) →
+        TellsBefore W.tells (at config.now auditor.old) reader.old.lines (ahead reader.old.held (H.left shelf.old)) line
+        (W.output watch.old) (W.output watch.new) }
+    ensures stops { IfErr result (λ _. Stops W.tells (at config.now auditor.old) (ahead reader.old.held (H.left shelf.old))
+        (W.output watch.old) (W.output watch.new)) }
     ensures long { (line : ℕ) → result ≡ Err (AuditFault.LongLine line) →
         AtLine reader.old.lines (ahead reader.old.held (H.left shelf.old)) line IsLongLine }
     ensures large { result ≡ Err AuditFault.TooLarge → (text : List ℕ) → ahead reader.old.held (H.left shelf.old) ≡ Some text →
         reader.old.most < reader.old.bytes + length text }
     ensures told { H.told shelf.new ≡ H.told shelf.old }
-    ensures later { H.faults shelf.old ≤ H.faults shelf.new }
+    ensures later { (H.faults shelf.old ≤ H.faults shelf.new) × (W.faults watch.old ≤ W.faults watch.new) }
     ensures fault { result ≡ Err AuditFault.ReadFault → Rose (H.faults shelf.old) (H.faults shelf.new) }
+    ensures put_fault { result ≡ Err AuditFault.WriteFault → Rose (W.faults watch.old) (W.faults watch.new) }
     ensures sure { IsTrue (H.sure shelf.old) → IsTrue (H.sure shelf.new) × (result ≢ Err AuditFault.ReadFault) }
 {
     'lines: loop {
-        if let Some(verdict) = read_line(auditor, alloc, config, reader, shelf, steps)? {
+        if let Some(verdict) = read_line(auditor, config, reader, shelf, watch, steps)? {
             return Ok(verdict);
         }
     }
-}
-
-/// Whether the file of this name is the listing of journals of the config, with the reports that the market's rules make of
-/// them, or the first line with which it is not. No more of it is held than a line, and the books of its events.
-pub fn verify<H: Shelf, L: Ledger>(
-    alloc: Global,
-    config: &Config,
-    shelf: &mut H,
-    name: &str,
-    steps: &mut Steps<L>,
-) -> Result<Verdict, AuditFault>
-    requires config { IsConfig config.now }
-    requires words { has_word_names config.now ≡ true }
-    requires lines { has_line_names config.now ≡ true }
-
-    // With `Same` the file is a listing of the config. With a line that differs it is none, and the line is the first with which
-    // it can be none.
-    ensures same { result ≡ Ok Verdict.Same → IfSome (H.told shelf.old) (λ files.
-        IfSome (file_named files name.now) (IsListing config.now)) }
-    ensures differs { (line : ℕ) (expected : Option (List ℕ)) → result ≡ Ok (Verdict.Differs line expected) →
-        IfSome (H.told shelf.old) (λ files. IfSome (file_named files name.now) (λ text.
-        DiffersAt (IsListing config.now) text line expected)) }
-    ensures exact { (line : ℕ) (expected : Option (List ℕ)) → result ≡ Ok (Verdict.Differs line expected) →
-        IfSome (H.told shelf.old) (λ files. IfSome (file_named files name.now) (λ text. IsListing config.now text → ⊥)) }
-
-    // Every other answer has its cause.
-    ensures long { (line : ℕ) → result ≡ Err (AuditFault.LongLine line) →
-        IfSome (H.told shelf.old) (λ files. IfSome (file_named files name.now) (λ text. IsLongLine text line)) }
-    ensures large { result ≡ Err AuditFault.TooLarge → IfSome (H.told shelf.old) (λ files.
-        IfSome (file_named files name.now) (λ text. MAX_LISTING_BYTES < length text)) }
-    ensures missing { IfSome (H.told shelf.old) (λ files. IsNone (file_named files name.now) →
-        (result ≡ Err AuditFault.ReadFault) ⊎ (result ≡ Err AuditFault.NoMemory)) }
-    ensures told { H.told shelf.new ≡ H.told shelf.old }
-    ensures later { H.faults shelf.old ≤ H.faults shelf.new }
-    ensures fault { result ≡ Err AuditFault.ReadFault → Rose (H.faults shelf.old) (H.faults shelf.new) }
-    ensures sure { IsTrue (H.sure shelf.old) →
-        IsTrue (H.sure shelf.new) × (HasFile (H.told shelf.old) name.now → result ≢ Err AuditFault.ReadFault) }
-{
-    let mut reader = LineReader::new(alloc, 0, MAX_LISTING_BYTES)?;
-    match shelf.begin(name) {
-        Ok(()) => {}
-        Err(_) => return Err(AuditFault::ReadFault),
-    }
-    let mut auditor = Auditor::new(config);
-    read_lines(&mut auditor, alloc, config, &mut reader, shelf, steps)
 }

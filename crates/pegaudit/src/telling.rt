@@ -138,6 +138,7 @@ fn tell_fault(rt: &HostRuntime, files: AuditFiles<'_>, fault: AuditFault) -> Exi
             eprintln!(rt; "pegaudit: {name}: line {line}: limit Line"),
             Exit::Limit,
         ),
+        AuditFault::WriteFault => Exit::WriteFault,
         AuditFault::NoMemory => Exit::NoMemory,
     }
 }

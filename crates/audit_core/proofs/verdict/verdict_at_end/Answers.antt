@@ -1,8 +1,7 @@
-use Rattle.std.proofs.Common.{◌≡◌, ◌==◌, ℕ, List, [], ◌∷◌, Some, true, false, length, sym, ◌∙◌, ap, subst, arith, refl}
+use Rattle.std.proofs.Common.{◌≡◌, ◌==◌, ℕ, List, [], ◌∷◌, ◌++◌, true, false, length, sym, ◌∙◌, ap, subst, append-nil, refl, arith}
 use Rattle.std.proofs.lemmas.Bool.Decides.{nat_tests}
-use Rattle.audit_core.specs.Ahead.{EndsListing, at}
+use Rattle.audit_core.specs.Telling.{Lists}
 use Rattle.audit_core.proofs.Awaiting.{awaits_end}
-use Rattle.audit_core.proofs.Passing.{ends_here}
 use Rattle.audit_core.proofs.verdict.verdict_at_end.Goals as goal
 use Rattle.audit_core.proofs.verdict.verdict_at_end.Goals.{else-is_empty-via-then-is_empty+else-is_whole, else-is_empty-via-else-is_empty}
 
@@ -11,10 +10,10 @@ empty_of [] e = refl
 empty_of (x ∷ xs) e = grind (arith, nat_tests)
 
 pub returns-then-is_whole-clause-same : goal.returns-then-is_whole-clause-same
-returns-then-is_whole-clause-same c = λ is.
+returns-then-is_whole-clause-same c = λ is telling read told has.
     let none : c.args.rest.now ≡ [] = empty_of c.args.rest.now (sym c.is_empty.ensures ∙ c.if-is_empty.true) in
-    let here = at c.args.config.now c.args.auditor.now in
-    subst (λ (t : List ℕ). EndsListing here (Some t)) (sym none) (ends_here here (c.is_whole.ensures.whole c.if-is_whole.true))
+    subst (λ (t : List ℕ). Lists telling c.args.config.now (read ++ t) told) (sym none)
+    (subst (λ (t : List ℕ). Lists telling c.args.config.now t told) (sym (append-nil read)) (c.is_whole.ensures.whole c.if-is_whole.true telling read told has))
 
 pub returns-else-is_empty-clause-differs : goal.returns-else-is_empty-clause-differs
 returns-else-is_empty-clause-differs c = λ number expected is. (
