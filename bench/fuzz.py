@@ -69,11 +69,13 @@ def changed(chance, text):
 
 
 def sent_reports(transcript):
-    """By member, the bodies of reports that were sent for the first time."""
+    """By member, the bodies of a book's reports that were sent for the first time. What names no symbol of the config is refused before it reaches a book:
+    a new order's and a status' report then have event 0, and a refused cancel or replace rule 1."""
     sent = collections.defaultdict(list)
     for line in transcript.splitlines():
         member, frame = line.split(b" ", 1)
-        if (b"|35=8|" in frame or b"|35=9|" in frame) and b"|43=Y|122=" not in frame and b"|17=0-" not in frame:
+        is_of_book = b"|35=8|" in frame and b"|17=0-" not in frame or b"|35=9|" in frame and b"|9702=1|" not in frame
+        if is_of_book and b"|43=Y|122=" not in frame:
             sent[member].append(frame[frame.index(b"|37=") + 1:frame.rindex(b"10=")])
     return sent
 
