@@ -30,6 +30,8 @@ struct Bell {
     rung: AtomicBool,
     /// Something was lost for want of memory.
     lost: AtomicBool,
+    /// The thread that reads the socket has begun.
+    read: AtomicBool,
 }
 
 /// The bells of all links, which their threads share.
@@ -50,6 +52,7 @@ pub fn bells_of(alloc: Global, count: usize) -> Result<(Bells, Vec<Inbox>), Allo
             sender,
             rung: AtomicBool::new(false),
             lost: AtomicBool::new(false),
+            read: AtomicBool::new(false),
         })?;
         inboxes.push(inbox)?;
     }
@@ -89,6 +92,21 @@ impl Bells {
     pub(crate) fn heard(&self, link: usize) {
         if let Some(bell) = self.list.get(link) {
             bell.rung.store(false, Ordering::SeqCst);
+        }
+    }
+
+    /// The socket of a link is read from now on.
+    pub(crate) fn begin(&self, link: usize) {
+        if let Some(bell) = self.list.get(link) {
+            bell.read.store(true, Ordering::SeqCst);
+        }
+    }
+
+    /// Whether the socket of a link is read, or was.
+    pub(crate) fn is_read(&self, link: usize) -> bool {
+        match self.list.get(link) {
+            Some(bell) => bell.read.load(Ordering::SeqCst),
+            None => false,
         }
     }
 

@@ -14,6 +14,9 @@ use std::time::Duration;
 /// How long a pull waits before it answers that nothing is there.
 const PULL_SECONDS: u64 = 1;
 
+/// How many such waits there may be before the socket is read. Where no thread could be started for it, nothing will come.
+const UNREAD_PULLS: u32 = 5;
+
 /// A link over a socket that another thread reads. It tells nothing of what comes and is put.
 #[derive(Drop)]
 pub struct SocketLink<'a, R: Wait + rt::Clock, W: Write> {
@@ -26,6 +29,8 @@ pub struct SocketLink<'a, R: Wait + rt::Clock, W: Write> {
     /// What the last piece still has, and how many of its bytes were given.
     piece: Vec<u8>,
     given: usize,
+    /// The waits in which nobody read the socket.
+    unread: u32,
     faults: u64,
     ends: u64,
 }
@@ -48,6 +53,7 @@ impl<'a, R: Wait + rt::Clock, W: Write> SocketLink<'a, R, W> {
             own,
             piece: Vec::new(alloc),
             given: 0,
+            unread: 0,
             faults: 0,
             ends: 0,
         }
@@ -60,6 +66,21 @@ impl<'a, R: Wait + rt::Clock, W: Write> SocketLink<'a, R, W> {
     {
         self.faults = self.faults.saturating_add(1);
         Failed
+    }
+
+    /// Whether something may still come after a wait in which nothing came.
+    fn may_come(&mut self) -> bool
+        ensures faults { self.new.faults ≡ self.old.faults }
+        ensures ends { self.new.ends ≡ self.old.ends }
+    {
+        if self.bells.has_lost(self.own) {
+            return false;
+        }
+        if self.bells.is_read(self.own) {
+            return true;
+        }
+        self.unread = self.unread.saturating_add(1);
+        self.unread < UNREAD_PULLS
     }
 
     /// Gives more of the last piece, if it has more.
@@ -114,7 +135,7 @@ impl<'a, R: Wait + rt::Clock, W: Write> Link for SocketLink<'a, R, W> {
                 Ok(Pulled::End)
             }
             Ok(Message::Fault) => Err(self.fail()),
-            Err(RecvTimeoutError::Timeout) if !self.bells.has_lost(self.own) => Ok(Pulled::Quiet),
+            Err(RecvTimeoutError::Timeout) if self.may_come() => Ok(Pulled::Quiet),
             Err(_) => Err(self.fail()),
         }
     }

@@ -16,6 +16,7 @@ pub fn read_all<R: Wait, S: Read + Drop>(
     bells: &Bells,
     link: usize,
 ) {
+    bells.begin(link);
     let mut buffer = [0u8; READ_BYTES];
     for _ in rt.forever() {
         let message = match stream.read(&mut buffer) {
