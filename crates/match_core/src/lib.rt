@@ -15,6 +15,7 @@ mod sweeping;
 mod walking;
 
 pub use engine::Engine;
+pub use entering::price_at;
 pub use narrow::NarrowSide;
 pub use rechecking::recheck;
 pub use scratch::{Scratch, reserve, walk};

@@ -5,8 +5,8 @@ ghost use Rattle.venue_words.specs.Conditions.{IsTick};
 ghost use Rattle.eager_meaning.specs.Step.{runs};
 
 use crate::book::plain_book;
-use eager_meaning::plain_run;
 use match_core::Engine;
+use plain_market::plain_run;
 use std::alloc::{AllocError, Global};
 use std::marker::Brand;
 use std::sync::ledger::{Blank, Ledger};

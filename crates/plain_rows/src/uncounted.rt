@@ -9,7 +9,7 @@ ghost use Rattle.venue_words.specs.declared.row.Key.{Key};
 ghost use Rattle.venue_words.specs.declared.row.Priced.{Priced};
 ghost use Rattle.peg_groups.specs.BestValue.{best_value};
 ghost use Rattle.peg_groups.specs.Side.{Standing, IsLaterThan, IsCut, IsHeldAt, NoneAt};
-ghost use Rattle.peg_groups.specs.Side.{entered, standing_of, taken_row, with_row, without};
+ghost use Rattle.peg_groups.specs.Side.{priced_at, standing_of, taken_row, with_row, without};
 
 use limit_tree::Node;
 use match_core::NarrowSide;
@@ -44,7 +44,7 @@ fn put_apart<S: SideBook, L: Ledger>(side: &mut S, node: Box<Node>, blank: Blank
     requires alone { IsLeaf node.value }
     requires room { S.row_room side.old node.value.row.key }
     requires later { IsLaterThan (S.state side.old) node.value.row.entry }
-    ensures state { S.state side.new ≡ with_row (entered (S.state side.old).best node.value.row) (S.state side.old) }
+    ensures state { S.state side.new ≡ with_row (priced_at (S.state side.old).best node.value.row) (S.state side.old) }
     ensures fits { (standing : Standing) → S.fits side.old standing → S.fits side.new standing }
     ensures moves { S.move_room side.old → S.move_room side.new }
 {

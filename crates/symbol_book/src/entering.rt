@@ -7,7 +7,8 @@ ghost use Rattle.venue_words.specs.declared.price.Best.{Best};
 ghost use Rattle.eager_meaning.specs.Entering.{enter, leftover_notice};
 ghost use Rattle.eager_meaning.specs.Terms.{key_of, quantity_of, row_of};
 ghost use Rattle.eager_meaning.specs.Work.{examined_by};
-ghost use Rattle.match_core.specs.BothSides.{others_of, priced_at, entered_rows};
+ghost use Rattle.peg_groups.specs.Side.{priced_at};
+ghost use Rattle.match_core.specs.BothSides.{others_of, entered_rows};
 ghost use Rattle.symbol_book.specs.Log.{Reports};
 ghost use Rattle.symbol_book.specs.Orders.{IsSmall, HaveLeft};
 ghost use Rattle.symbol_book.specs.State.{state_of};
@@ -15,10 +16,10 @@ ghost use Rattle.symbol_book.specs.State.{state_of};
 use crate::log::ReportLog;
 use crate::showing::view_closed;
 use crate::trading::report_trades;
-use eager_meaning::{Order, row_of, value_under};
-use match_core::Engine;
+use eager_meaning::{Order, row_of};
+use match_core::{Engine, price_at};
 use std::sync::ledger::Ledger;
-use venue_words::{Event, Execution, Kind, Priced, Row, Steps, Terms};
+use venue_words::{Event, Execution, Kind, Row, Steps, Terms};
 
 /// The row with which an order of these terms enters.
 #[tactic(auto, unfolding(eager_meaning::specs::Terms::row_of))]
@@ -34,14 +35,10 @@ pub fn entering_row(tick: u32, event: u32, order: u32, member: u32, cum: u32, te
 
 /// The price of a row at the present quote.
 pub fn price_now<E: Engine>(engine: &E, row: &Row) -> Option<u32>
+    requires { IsTick row.now.key.grid }
     ensures { result ≡ price_shown (priced_at (E.best engine.now) row.now) }
 {
-    Priced {
-        row: *row,
-        value: value_under(engine.quote(), *row),
-        time: row.entry,
-    }
-    .price()
+    price_at(*row, engine.quote()).price()
 }
 
 /// What is left of an order that stays only to trade at once is canceled.

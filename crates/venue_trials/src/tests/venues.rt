@@ -7,7 +7,7 @@ ghost use Rattle.turn_gate.specs.Rule.{whole};
 ghost use Rattle.venue_core.specs.Joining.{HaveParts};
 ghost use Rattle.venue_core.specs.Venues.{AreSeatsOf};
 
-use eager_meaning::plain_run;
+use plain_market::plain_run;
 use std::alloc::{AllocError, Global};
 use std::marker::Brand;
 use std::process::Abort;

@@ -2,7 +2,7 @@
 ghost use Rattle.std.specs.Prelude.{◌≡◌, drop, IfOk};
 ghost use Rattle.venue_words.specs.Journals.{reports_of};
 
-use eager_meaning::plain_run;
+use plain_market::plain_run;
 use std::alloc::{AllocError, Global};
 use std::sync::ledger::Ledger;
 use venue_words::{

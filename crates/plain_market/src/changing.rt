@@ -1,0 +1,346 @@
+//! How a live order is canceled or replaced.
+ghost use Rattle.std.specs.Prelude.{◌≡◌, [], ◌∷◌, IfOk, map};
+ghost use Rattle.venue_words.specs.Conditions.{IsTick};
+ghost use Rattle.eager_meaning.specs.Floor.{same_method};
+ghost use Rattle.eager_meaning.specs.Orders.{changed_at};
+ghost use Rattle.eager_meaning.specs.Entering.{enter};
+ghost use Rattle.eager_meaning.specs.Changing.{named_order, refusal, without, cancel, on_cancel, replaced_order, with_replaced, only_lowers, with_leaves, resize, arrival_of_replace, on_replace};
+
+use crate::notices::one_notice;
+use crate::plain::Plain;
+use crate::views::{view_closed, view_of};
+use eager_meaning::{Live, Notice, Order, is_immediate, is_pegged, limit_of, quantity_of, row_of};
+use std::alloc::{AllocError, Global};
+use venue_words::{
+    Bytes, Execution, Kind, Method, NamedOrder, OrderStatus, Priced, RefusedRequest, Row, Rule,
+    Terms, same_key,
+};
+
+/// How a refusal names a live order.
+fn named_order(live: &Live) -> NamedOrder
+    ensures { result ≡ named_order live.now }
+{
+    NamedOrder {
+        first: live.order.first,
+        status: OrderStatus::of_live(live.order.cum),
+    }
+}
+
+/// A refusal of a cancel or of a replace.
+fn refusal(
+    alloc: Global,
+    request: RefusedRequest,
+    id: &Bytes,
+    orig: &Bytes,
+    live: &Option<Live>,
+    rule: Rule,
+) -> Result<Kind, AllocError>
+    ensures { IfOk result (λ kind. kind ≡ refusal request id.now orig.now live.now rule) }
+{
+    Ok(Kind::Refused {
+        id: Bytes::copy_of(alloc, id.as_slice())?,
+        orig: Bytes::copy_of(alloc, orig.as_slice())?,
+        order: live.as_ref().map(named_order),
+        request,
+        rule,
+    })
+}
+
+/// The rows without one.
+fn without(alloc: Global, entry: u32, rows: &[Priced]) -> Result<Vec<Priced>, AllocError>
+    ensures { IfOk result (λ kept. kept.items ≡ without entry rows.now) }
+{
+    rows.iter()
+        .copied()
+        .filter(|x| x.row.entry != entry)
+        .collect(alloc)
+}
+
+/// A row with other leaves, where this is its entry.
+fn with_leaves(entry: u32, leaves: u32, x: Priced) -> Priced
+    ensures { result ≡ with_leaves entry leaves x }
+{
+    if x.row.entry == entry {
+        Priced {
+            row: Row { leaves, ..x.row },
+            value: x.value,
+            time: x.time,
+        }
+    } else {
+        x
+    }
+}
+
+/// The rows with other leaves in one.
+fn all_with_leaves(
+    alloc: Global,
+    entry: u32,
+    leaves: u32,
+    rows: &[Priced],
+) -> Result<Vec<Priced>, AllocError>
+    ensures { IfOk result (λ changed. changed.items ≡ map (with_leaves entry leaves) rows.now) }
+{
+    rows.iter()
+        .map(|x| with_leaves(entry, leaves, *x))
+        .collect(alloc)
+}
+
+/// The order as a replace leaves it.
+fn replaced_order(
+    alloc: Global,
+    tick: u32,
+    id: &Bytes,
+    terms: &Terms,
+    order: &Order,
+) -> Result<Order, AllocError>
+    requires { IsTick tick }
+    ensures { IfOk result (λ replaced. replaced ≡ replaced_order tick id.now terms.now order.now) }
+{
+    Ok(Order {
+        member: order.member,
+        first: order.first,
+        id: Bytes::copy_of(alloc, id.as_slice())?,
+        side: order.side,
+        quantity: quantity_of(terms),
+        pegged: is_pegged(terms),
+        limit: limit_of(tick, terms),
+        cum: order.cum,
+        notional: order.notional,
+    })
+}
+
+/// The same, in its place.
+fn replace_order(
+    alloc: Global,
+    tick: u32,
+    id: &Bytes,
+    terms: &Terms,
+    orders: &mut Vec<Order>,
+    number: u32,
+) -> Result<(), AllocError>
+    requires { IsTick tick }
+    ensures { IfOk result (λ _. orders.new.items
+        ≡ changed_at (replaced_order tick id.now terms.now) number orders.old.items) }
+{
+    let k = number as usize;
+    if k < orders.len() {
+        let order = replaced_order(alloc, tick, id, terms, &orders[k])?;
+        orders[k] = order;
+    }
+    Ok(())
+}
+
+/// Whether two orders meet their minimums in the same way.
+fn same_method(x: Method, y: Method) -> bool
+    ensures { result ≡ same_method x y }
+{
+    matches!(
+        (x, y),
+        (Method::Once, Method::Once) | (Method::Multiple, Method::Multiple)
+    )
+}
+
+/// Whether a replace changes the quantity alone, and doesn't raise it.
+#[tactic(auto, unfolding(eager_meaning::specs::Changing::only_lowers))]
+fn only_lowers(tick: u32, terms: &Terms, live: &Live) -> bool
+    requires { IsTick tick }
+    ensures { result ≡ only_lowers tick terms.now live.now }
+{
+    let new = row_of(tick, 0, 0, 0, 0, terms);
+    let old = live.row.row;
+    same_key(new.key, old.key)
+        && new.cap == old.cap
+        && new.minimum == old.minimum
+        && same_method(new.method, old.method)
+        && !is_immediate(terms)
+        && quantity_of(terms) <= live.order.quantity
+}
+
+impl Plain {
+    /// A live order leaves.
+    #[tactic(auto, unfolding(eager_meaning::specs::Changing::cancel))]
+    fn cancel(
+        &mut self,
+        alloc: Global,
+        member: u32,
+        id: &Bytes,
+        orig: &Bytes,
+        live: &Live,
+    ) -> Result<Vec<Notice>, AllocError>
+        ensures state { IfOk result (λ _. self.new ≡ (cancel member id.now orig.now live.now self.old).state) }
+        ensures notices { IfOk result (λ notices. notices.items
+            ≡ (cancel member id.now orig.now live.now self.old).notices) }
+    {
+        let mut view = view_closed(alloc, &live.order)?;
+        view.id = Bytes::copy_of(alloc, id.as_slice())?;
+        let orig = Bytes::copy_of(alloc, orig.as_slice())?;
+        let copy = Bytes::copy_of(alloc, id.as_slice())?;
+        self.used.push((member, copy))?;
+        self.buys = without(alloc, live.row.row.entry, &self.buys)?;
+        self.sells = without(alloc, live.row.row.entry, &self.sells)?;
+        one_notice(
+            alloc,
+            member,
+            Kind::Order {
+                view,
+                execution: Execution::Canceled { orig: Some(orig) },
+            },
+        )
+    }
+
+    /// A Cancel, with the live order that it names and the rule that it breaks, or none.
+    #[tactic(auto, unfolding(eager_meaning::specs::Changing::on_cancel))]
+    pub(crate) fn on_cancel(
+        &mut self,
+        alloc: Global,
+        member: u32,
+        id: &Bytes,
+        orig: &Bytes,
+        live: &Option<Live>,
+        broken: Option<Rule>,
+    ) -> Result<Vec<Notice>, AllocError>
+        ensures state { IfOk result (λ _. self.new ≡ (on_cancel member id.now orig.now live.now broken self.old).state) }
+        ensures notices { IfOk result (λ notices. notices.items
+            ≡ (on_cancel member id.now orig.now live.now broken self.old).notices) }
+    {
+        match (broken, live) {
+            (Some(rule), live) => {
+                let kind = refusal(alloc, RefusedRequest::Cancel, id, orig, live, rule)?;
+                one_notice(alloc, member, kind)
+            }
+            (None, Some(found)) => self.cancel(alloc, member, id, orig, found),
+            (None, None) => Ok(Vec::new(alloc)),
+        }
+    }
+
+    /// The state after a replace of a live order, but for its row.
+    fn set_terms(
+        &mut self,
+        alloc: Global,
+        tick: u32,
+        member: u32,
+        id: &Bytes,
+        terms: &Terms,
+        live: &Live,
+    ) -> Result<(), AllocError>
+        requires { IsTick tick }
+        ensures { IfOk result (λ _. self.new ≡ with_replaced tick member id.now terms.now live.now self.old) }
+    {
+        replace_order(alloc, tick, id, terms, &mut self.orders, live.number)?;
+        let copy = Bytes::copy_of(alloc, id.as_slice())?;
+        self.used.push((member, copy))?;
+        Ok(())
+    }
+
+    /// The quantity of a live order changes.
+    #[tactic(auto, unfolding(eager_meaning::specs::Changing::resize))]
+    fn resize(
+        &mut self,
+        alloc: Global,
+        tick: u32,
+        member: u32,
+        id: &Bytes,
+        orig: &Bytes,
+        terms: &Terms,
+        live: &Live,
+    ) -> Result<Vec<Notice>, AllocError>
+        requires { IsTick tick }
+        ensures state { IfOk result (λ _. self.new
+            ≡ (resize tick member id.now orig.now terms.now live.now self.old).state) }
+        ensures notices { IfOk result (λ notices. notices.items
+            ≡ (resize tick member id.now orig.now terms.now live.now self.old).notices) }
+    {
+        let order = replaced_order(alloc, tick, id, terms, &live.order)?;
+        let leaves = order.quantity.saturating_sub(order.cum);
+        let entry = live.row.row.entry;
+        let view = view_of(alloc, &order, Some(live.row))?;
+        let orig = Bytes::copy_of(alloc, orig.as_slice())?;
+        self.set_terms(alloc, tick, member, id, terms, live)?;
+        self.buys = all_with_leaves(alloc, entry, leaves, &self.buys)?;
+        self.sells = all_with_leaves(alloc, entry, leaves, &self.sells)?;
+        one_notice(
+            alloc,
+            member,
+            Kind::Order {
+                view,
+                execution: Execution::Replaced { orig },
+            },
+        )
+    }
+
+    /// A live order leaves and enters anew.
+    #[tactic(auto, unfolding(eager_meaning::specs::Changing::arrival_of_replace))]
+    fn reenter(
+        &mut self,
+        alloc: Global,
+        tick: u32,
+        event: u32,
+        member: u32,
+        id: &Bytes,
+        orig: &Bytes,
+        terms: &Terms,
+        live: &Live,
+    ) -> Result<Vec<Notice>, AllocError>
+        requires { IsTick tick }
+        ensures state { IfOk result (λ _. self.new
+            ≡ (enter (arrival_of_replace tick event member id.now orig.now terms.now live.now self.old)).state) }
+        ensures notices { IfOk result (λ notices. notices.items
+            ≡ (enter (arrival_of_replace tick event member id.now orig.now terms.now live.now self.old)).notices) }
+    {
+        let x = self.priced_now(row_of(tick, event, live.number, member, live.order.cum, terms));
+        let order = replaced_order(alloc, tick, id, terms, &live.order)?;
+        let view = view_of(alloc, &order, Some(x))?;
+        let orig = Bytes::copy_of(alloc, orig.as_slice())?;
+        self.set_terms(alloc, tick, member, id, terms, live)?;
+        self.buys = without(alloc, live.row.row.entry, &self.buys)?;
+        self.sells = without(alloc, live.row.row.entry, &self.sells)?;
+        self.enter(
+            alloc,
+            x,
+            is_immediate(terms),
+            Notice {
+                member,
+                kind: Kind::Order {
+                    view,
+                    execution: Execution::Replaced { orig },
+                },
+            },
+        )
+    }
+
+    /// A Replace, with the live order that it names and the rule that it breaks, or none.
+    #[tactic(auto, unfolding(eager_meaning::specs::Changing::on_replace))]
+    pub(crate) fn on_replace(
+        &mut self,
+        alloc: Global,
+        tick: u32,
+        event: u32,
+        member: u32,
+        id: &Bytes,
+        orig: &Bytes,
+        terms: &Terms,
+        live: &Option<Live>,
+        broken: Option<Rule>,
+    ) -> Result<Vec<Notice>, AllocError>
+        requires { IsTick tick }
+        ensures state { IfOk result (λ _. self.new
+            ≡ (on_replace tick event member id.now orig.now terms.now live.now broken self.old).state) }
+        ensures notices { IfOk result (λ notices. notices.items
+            ≡ (on_replace tick event member id.now orig.now terms.now live.now broken self.old).notices) }
+    {
+        match (broken, live) {
+            (Some(rule), live) => {
+                let kind = refusal(alloc, RefusedRequest::Replace, id, orig, live, rule)?;
+                one_notice(alloc, member, kind)
+            }
+            (None, Some(found)) => {
+                if only_lowers(tick, terms, found) {
+                    self.resize(alloc, tick, member, id, orig, terms, found)
+                } else {
+                    self.reenter(alloc, tick, event, member, id, orig, terms, found)
+                }
+            }
+            (None, None) => Ok(Vec::new(alloc)),
+        }
+    }
+}
