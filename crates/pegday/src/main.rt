@@ -2,19 +2,11 @@
 //! line's output, and after a crash goes on from what the journal has.
 #![tactic(auto)]
 
-pub mod complete;
-pub mod day;
-mod files;
-mod journal;
-pub mod laws;
-mod lines;
-pub mod status;
-mod working;
-
 ghost use Rattle.std.specs.Prelude.{◌≡◌};
 
-use crate::day::{day, refuse_words};
-use crate::status::{DayStatus, exit_code};
+use day_core::DayStatus;
+use day_core::day::{day, refuse_words};
+use day_core::status::exit_code;
 use day_journal::FileDisk;
 use io_edge::{FileShelf, StreamSink};
 use program_words::arguments::arguments;
@@ -32,9 +24,6 @@ const DIFFERS: &str =
 
 const DAMAGED: &str =
     "  the journal is cut off or was changed by something else: restore it, or begin a new one";
-
-#[cfg(test)]
-mod tests;
 
 /// Runs over the files and streams of the system.
 fn run<L: Ledger>(rt: &HostRuntime, words: &[String], blank: Blank) -> DayStatus

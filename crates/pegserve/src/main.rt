@@ -3,23 +3,10 @@
 //! address it takes one connection of a session of this name, which gets copies of the members' reports.
 #![tactic(auto)]
 
-mod asking;
-mod closing;
-mod copying;
-mod hints;
-mod joining;
-mod running;
-mod splitting;
-mod workers;
-mod working;
-
-use crate::running::{refuse_words, run};
 use io_edge::StreamSink;
 use program_words::arguments::arguments;
 use std::process::ExitCode;
-
-#[cfg(test)]
-mod tests;
+use venue_server::running::{refuse_words, run};
 
 fn main(rt: HostRuntime) -> ExitCode {
     let mut err = StreamSink::new(rt.stderr());

@@ -1,0 +1,268 @@
+//! Days over disks, files and sinks in memory.
+ghost use Rattle.std.specs.Prelude.{◌≡◌, false};
+
+use day_core::DayStatus;
+use day_core::day::day;
+use day_core::status::exit_code;
+use day_journal::{Disk, MemDisk, open};
+use io_edge::{MemShelf, MemSink, Shelf, Sink};
+use script_text::{LimitCause, LineCause};
+use std::alloc::{AllocError, Global};
+use std::marker::Brand;
+use std::process::Abort;
+use std::sync::ledger::{Blank, Ledger};
+use std::test::Fail;
+use venue_words::{Bytes, Steps};
+
+const HEADER: &str = "PEGV 1\nBEGIN 20240102-14:30:00.000\n";
+
+const HEADER_JOURNAL: [u8; 44] =
+    *b"\x01\x00\x00\x00\x06PEGV 1\x01\x00\x00\x00\x1bBEGIN 20240102-14:30:00.000\x00";
+
+/// A script in which a trade is made between two cents.
+const TRADE: &str = "PEGV 1
+MEMBER A
+MEMBER B
+MARKET N
+SYMBOL X 100
+BEGIN 20240102-14:30:00.000
+M A 35=A|49=A|56=PEGV|34=1|52=20240102-14:30:00|98=0|108=30|1137=9|
+M B 35=A|49=B|56=PEGV|34=1|52=20240102-14:30:00|98=0|108=30|1137=9|
+Q X N 10.00 10.01
+M A 35=D|49=A|56=PEGV|34=2|52=20240102-14:30:00|11=a1|55=X|54=1|60=20240102-14:30:00|38=100|40=P|1094=2|
+M B 35=D|49=B|56=PEGV|34=2|52=20240102-14:30:00|11=b1|55=X|54=2|60=20240102-14:30:00|38=100|40=P|1094=2|
+";
+
+/// How a day ended, and what it left.
+#[derive(Drop)]
+struct Outcome {
+    status: DayStatus,
+    journal: Vec<u8>,
+    out: Vec<u8>,
+    err: Vec<u8>,
+}
+
+fn counted<H: Shelf, D: Disk, K: Sink, E: Sink, L: Ledger>(
+    alloc: Global,
+    words: &[String],
+    shelf: &mut H,
+    disk: D,
+    out: &mut K,
+    err: &mut E,
+    blank: Blank,
+) -> (DayStatus, D)
+    requires begun { D.begun disk ≡ false }
+    requires blank { (blank.name ≡ L.name) × (blank.parts ≡ L.parts) × (L.parts ≡ 1) }
+{
+    let mut steps: Steps<L> = Steps::start(blank);
+    day(alloc, words, shelf, disk, out, err, &mut steps)
+}
+
+fn words(alloc: Global) -> Result<Vec<String>, AllocError> {
+    let mut words = Vec::new(alloc);
+    words.push(String::from_str(alloc, "s")?)?;
+    words.push(String::from_str(alloc, "j")?)?;
+    Ok(words)
+}
+
+/// Works a script over a journal of these bytes, on a disk that fails at one call.
+fn run(alloc: Global, script: &[u8], journal: &[u8], fail: u64) -> Result<Outcome, Fail> {
+    let mut fails = Vec::new(alloc);
+    fails.push(fail)?;
+    let disk = MemDisk::new(journal.to_vec(alloc)?, fails);
+    let mut files = Vec::new(alloc);
+    files.push((String::from_str(alloc, "s")?, script.to_vec(alloc)?))?;
+    let mut shelf = MemShelf::new(files, 7, Vec::new(alloc));
+    let mut out = MemSink::new(alloc, Vec::new(alloc));
+    let mut err = MemSink::new(alloc, Vec::new(alloc));
+    let words = words(alloc)?;
+    let (status, disk) = counted::<MemShelf, MemDisk, MemSink, MemSink, Brand>(
+        alloc,
+        words.as_slice(),
+        &mut shelf,
+        disk,
+        &mut out,
+        &mut err,
+        Blank::new(1),
+    );
+    Ok(Outcome {
+        status,
+        journal: disk.bytes().to_vec(alloc)?,
+        out: out.bytes().to_vec(alloc)?,
+        err: err.bytes().to_vec(alloc)?,
+    })
+}
+
+/// The lines of a journal of these bytes, each with an LF.
+fn text_of(alloc: Global, journal: &[u8]) -> Result<Vec<u8>, Fail> {
+    let mut disk = MemDisk::new(journal.to_vec(alloc)?, Vec::new(alloc));
+    if disk.begin("j").is_err() {
+        return Err("not begun".into());
+    }
+    match open(alloc, disk) {
+        Ok((_, lines)) => joined(alloc, &lines),
+        Err(_) => Err("not opened".into()),
+    }
+}
+
+fn joined(alloc: Global, lines: &[Bytes]) -> Result<Vec<u8>, Fail> {
+    let mut text = Vec::new(alloc);
+    for line in lines {
+        text.extend_from_slice(line.as_slice())?;
+        text.push(b'\n')?;
+    }
+    Ok(text)
+}
+
+#[test]
+fn a_day_goes_on_from_its_journal(rt: HostRuntime) -> Result<(), Fail> {
+    let alloc = rt.alloc();
+    let first = run(alloc, HEADER.as_bytes(), &[], 0)?;
+    assert!(rt; first.status == DayStatus::Done);
+    assert_eq!(rt; first.journal.as_slice(), HEADER_JOURNAL.as_slice());
+    let again = run(alloc, HEADER.as_bytes(), &HEADER_JOURNAL, 0)?;
+    assert!(rt; again.status == DayStatus::Done);
+    assert_eq!(rt; again.journal.as_slice(), HEADER_JOURNAL.as_slice());
+    let whole = run(alloc, TRADE.as_bytes(), &[], 0)?;
+    assert!(rt; whole.status == DayStatus::Done);
+    let twice = run(alloc, TRADE.as_bytes(), &whole.journal, 0)?;
+    assert!(rt; twice.status == DayStatus::Done);
+    assert_eq!(rt; twice.out.as_slice(), whole.out.as_slice());
+    assert_eq!(rt; twice.journal.as_slice(), whole.journal.as_slice());
+    assert_eq!(rt;
+        text_of(alloc, &whole.journal)?.as_slice(),
+        TRADE.as_bytes()
+    );
+    Ok(())
+}
+
+#[test]
+fn a_line_whose_output_was_put_is_in_the_journal(rt: HostRuntime) -> Result<(), Fail> {
+    let alloc = rt.alloc();
+    let whole = run(alloc, TRADE.as_bytes(), &[], 0)?;
+    for fail in 1..52_u64 {
+        let broken = run(alloc, TRADE.as_bytes(), &[], fail)?;
+        assert!(rt;
+            broken.status
+                == (if fail < 50 {
+                    DayStatus::DiskFault
+                } else {
+                    DayStatus::Done
+                }),
+            "{fail}"
+        );
+        let text = text_of(alloc, &broken.journal)?;
+        assert!(rt; TRADE.as_bytes().starts_with(&text), "{fail}");
+        let kept = run(alloc, &text, &[], 0)?;
+        assert!(rt; kept.out.as_slice().starts_with(&broken.out), "{fail}");
+        let after = run(alloc, TRADE.as_bytes(), &broken.journal, 0)?;
+        assert!(rt; after.status == DayStatus::Done, "{fail}");
+        assert_eq!(rt; after.out.as_slice(), whole.out.as_slice(), "{fail}");
+        assert_eq!(rt;
+            after.journal.as_slice(),
+            whole.journal.as_slice(),
+            "{fail}"
+        );
+    }
+    Ok(())
+}
+
+/// A script over the two lines of a header's journal, how the day ends, and what is told of it.
+#[derive(Drop)]
+struct Case {
+    script: &'static str,
+    status: DayStatus,
+    told: &'static str,
+    exit: u8,
+    kept: &'static str,
+}
+
+fn check(rt: &impl Abort, alloc: Global, cases: &[Case]) -> Result<(), Fail> {
+    for case in cases {
+        let ended = run(alloc, case.script.as_bytes(), &HEADER_JOURNAL, 0)?;
+        assert!(rt; ended.status == case.status, "{}", case.script);
+        assert_eq!(rt; ended.err.as_slice(), case.told.as_bytes());
+        assert_eq!(rt; exit_code(ended.status), case.exit);
+        assert_eq!(rt;
+            text_of(alloc, &ended.journal)?.as_slice(),
+            case.kept.as_bytes()
+        );
+    }
+    Ok(())
+}
+
+#[test]
+fn a_day_ends_as_its_lines_say(rt: HostRuntime) -> Result<(), Fail> {
+    let cases = [
+        Case {
+            script: "PEGV 1\nMEMBER A\n",
+            status: DayStatus::Differs { line: 2 },
+            told: "pegday: line 2 differs\n",
+            exit: 12,
+            kept: HEADER,
+        },
+        Case {
+            // bad, but another line first
+            script: "PEGV 1\nMEMBER \n",
+            status: DayStatus::Differs { line: 2 },
+            told: "pegday: line 2 differs\n",
+            exit: 12,
+            kept: HEADER,
+        },
+        Case {
+            // no end, but a line of the journal first
+            script: "PEGV 1\nBEGIN 20240102-14:30:00.000",
+            status: DayStatus::Differs { line: 2 },
+            told: "pegday: line 2 differs\n",
+            exit: 12,
+            kept: HEADER,
+        },
+        Case {
+            script: "PEGV 1\nBEGIN 20240102-14:30:00.000\nT 2024\n",
+            status: DayStatus::BadLine {
+                line: 3,
+                cause: LineCause::BadMoment,
+            },
+            told: "pegday: line 3: BadMoment\n",
+            exit: 3,
+            kept: HEADER,
+        },
+        Case {
+            script: "PEGV 1\nBEGIN 20240102-14:30:00.000\nT 20240102-14:30:01.000\nT",
+            status: DayStatus::BadLine {
+                line: 4,
+                cause: LineCause::NoEnd,
+            },
+            told: "pegday: line 4: NoEnd\n",
+            exit: 3,
+            kept: "PEGV 1\nBEGIN 20240102-14:30:00.000\nT 20240102-14:30:01.000\n",
+        },
+    ];
+    check(&rt, rt.alloc(), &cases)
+}
+
+#[test]
+fn a_line_that_passes_a_limit_is_not_kept(rt: HostRuntime) -> Result<(), Fail> {
+    let alloc = rt.alloc();
+    let mut script = HEADER.as_bytes().to_vec(alloc)?;
+    script.extend_from_slice(&[b'T'; 16_385])?;
+    let long = run(alloc, &script, &HEADER_JOURNAL, 0)?;
+    let limit = DayStatus::LimitLine {
+        line: 3,
+        which: LimitCause::Line,
+    };
+    assert!(rt; long.status == limit);
+    assert_eq!(rt; exit_code(long.status), 4);
+    assert_eq!(rt; long.journal.as_slice(), HEADER_JOURNAL.as_slice());
+    let damaged = run(alloc, &script, &HEADER_JOURNAL[..43], 0)?;
+    assert!(rt; damaged.status == (DayStatus::Damaged { at: 11 }));
+    assert_eq!(rt;
+        damaged.err.as_slice(),
+        b"pegday: journal damaged at 11\n".as_slice()
+    );
+    assert_eq!(rt; exit_code(damaged.status), 11);
+    let fault = run(alloc, &script, &[], 1)?;
+    assert_eq!(rt; fault.err.as_slice(), b"pegday: disk fault\n".as_slice());
+    assert_eq!(rt; exit_code(fault.status), 10);
+    Ok(())
+}

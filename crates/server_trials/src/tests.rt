@@ -1,0 +1,304 @@
+//! The server over loopback, with peers of its own.
+ghost use Rattle.std.specs.Prelude.{◌<◌, ◌≤◌, length, IfOk};
+ghost use Rattle.venue_words.specs.Conditions.{IsConfig};
+ghost use Rattle.drop_copy.specs.Desks.{AreConfigured};
+
+use drop_copy::DropPlan;
+use fix_write::wrap;
+use io_edge::MemSink;
+use script_text::read_header;
+use serve_core::{ServePlan, exit_code};
+use std::alloc::Global;
+use std::io::{Read, Write};
+use std::net::{Net, SocketAddr, TcpListener, TcpStream};
+use std::sync::Wait;
+use std::test::Fail;
+use std::thread::{Threads, join};
+use std::time::Duration;
+use std::{fs, rt};
+use venue_server::asking::copies_of;
+use venue_server::copying::CopySession;
+use venue_server::running::{Server, serve};
+use venue_words::{Config, NoMemory};
+
+const CONFIG: &[u8] =
+    b"PEGV 1\nMEMBER A\nMEMBER B\nMARKET N\nSYMBOL X 100\nBEGIN 20240102-14:30:00.000\n";
+
+const QUOTES: &[u8] = b"Q X N 150.10 150.14\n";
+
+const A_LOGON: &[u8] =
+    b"35=A\x0149=A\x0156=PEGV\x0134=1\x0152=20240102-14:30:00\x0198=0\x01108=30\x011137=9\x01";
+
+const A_ORDER: &[u8] =
+    b"35=D\x0149=A\x0156=PEGV\x0134=2\x0152=20240102-14:30:00.123456\x011=ACC7\x0111=20240102-000017\x0118=M\x0121=1\x0155=X\x0154=1\x0138=2500\x0140=P\x0144=150.25\x0159=0\x0160=20240102-14:30:00.123456\x01110=500\x01211=0\x01836=0\x011094=2\x011822=1\x01453=2\x01448=FIRM\x01447=D\x01452=1\x01448=DESK\x01447=D\x01452=11\x01";
+
+const A_LOGOUT: &[u8] = b"35=5\x0149=A\x0156=PEGV\x0134=3\x0152=20240102-14:30:00\x01";
+
+const B_LOGON: &[u8] =
+    b"35=A\x0149=B\x0156=PEGV\x0134=1\x0152=20240102-14:30:00\x0198=0\x01108=30\x011137=9\x01";
+
+/// An order without shares, which is rejected.
+const B_NOTHING: &[u8] =
+    b"35=D\x0149=B\x0156=PEGV\x0134=2\x0152=20240102-14:30:00\x0111=b0\x0155=X\x0154=2\x0138=0\x0140=P\x011094=2\x0160=20240102-14:30:00\x01";
+
+const B_ORDER: &[u8] =
+    b"35=D\x0149=B\x0156=PEGV\x0134=3\x0152=20240102-14:30:00\x0111=b1\x0155=X\x0154=2\x0138=2500\x0140=P\x011094=2\x0160=20240102-14:30:00\x01";
+
+const C_LOGON: &[u8] =
+    b"35=A\x0149=C\x0156=PEGV\x0134=1\x0152=20240102-14:30:00\x0198=0\x01108=30\x011137=9\x01";
+
+/// The numbers of the messages that C gets behind the answer to its Logon, each with the member whose report it copies.
+const COPIES: &[u8] = b"34=2 9703=A\n34=3 9703=B\n34=4 9703=A\n34=5 9703=B\n34=6 9703=B\n";
+
+/// How often a peer reads before he gives up.
+const MOST_READS: u32 = 200;
+
+/// A peer of the server, with all bytes that he read. What he does is nothing where it fails.
+#[derive(Drop)]
+struct Peer {
+    stream: TcpStream,
+    heard: Vec<u8>,
+}
+
+impl Peer {
+    /// Sends a frame of this content.
+    fn say(&mut self, alloc: Global, content: &[u8]) -> Option<()> {
+        let frame = wrap(alloc, content).ok()?;
+        self.stream.write_all(frame.as_slice()).ok()
+    }
+
+    /// Reads once more, and says whether the server gave something.
+    fn read(&mut self) -> Option<bool> {
+        let mut buffer = [0u8; 1_024];
+        let count = self.stream.read(&mut buffer).ok()?;
+        self.heard
+            .extend_from_slice(&buffer[..count.min(1_024)])
+            .ok()?;
+        Some(count > 0)
+    }
+
+    /// Reads until the server ends the connection.
+    fn hear_end(&mut self) -> Option<()> {
+        for _ in 0..MOST_READS {
+            if !self.read()? {
+                return Some(());
+            }
+        }
+        None
+    }
+
+    /// Reads until all that was read holds this text.
+    fn hear(&mut self, text: &[u8]) -> Option<()>
+        requires { 0 < length text.now }
+    {
+        for _ in 0..MOST_READS {
+            if self
+                .heard
+                .as_slice()
+                .windows(text.len())
+                .any(|at| at == text)
+            {
+                return Some(());
+            }
+            if !self.read()? {
+                return None;
+            }
+        }
+        None
+    }
+}
+
+/// A peer who is connected.
+fn peer_of<R: Net<Stream = TcpStream>>(rt: &R, alloc: Global, address: SocketAddr) -> Option<Peer> {
+    let stream = TcpStream::connect(rt, address).ok()?;
+    stream.set_read_timeout(Some(Duration::from_secs(20))).ok()?;
+    Some(Peer {
+        stream,
+        heard: Vec::new(alloc),
+    })
+}
+
+/// C gets copies. A bids and waits; B, who connects later, is rejected once and sells; A hears of his fill, logs out, and B ends
+/// without a word, which ends C's connection. All that C heard comes back.
+fn trade<R: Net<Stream = TcpStream>>(
+    rt: &R,
+    alloc: Global,
+    address: SocketAddr,
+    drop_address: SocketAddr,
+) -> Option<Vec<u8>> {
+    let mut c = peer_of(rt, alloc, drop_address)?;
+    c.say(alloc, C_LOGON)?;
+    c.hear(b"\x0135=A\x01")?;
+    let mut a = peer_of(rt, alloc, address)?;
+    a.say(alloc, A_LOGON)?;
+    a.say(alloc, A_ORDER)?;
+    a.hear(b"\x01150=0\x01")?;
+    c.hear(b"\x019703=A\x01")?;
+    let mut b = peer_of(rt, alloc, address)?;
+    b.say(alloc, B_LOGON)?;
+    b.say(alloc, B_NOTHING)?;
+    c.hear(b"\x019703=B\x01")?;
+    b.say(alloc, B_ORDER)?;
+    a.hear(b"\x01150=F\x01")?;
+    b.hear(b"\x01150=F\x01")?;
+    a.say(alloc, A_LOGOUT)?;
+    a.hear(b"\x0135=5\x01")?;
+    drop(b);
+    c.hear_end()?;
+    Some(c.heard)
+}
+
+/// The number of each copy, and its member.
+fn copies_in(alloc: Global, heard: &[u8]) -> Result<Vec<u8>, NoMemory> {
+    let mut copies = Vec::new(alloc);
+    let mut number = heard;
+    for field in heard.split(|byte| *byte == 1) {
+        if field.starts_with(b"34=") {
+            number = field;
+        }
+        if field.starts_with(b"9703=") {
+            copies.extend_from_slice(number)?;
+            copies.push(b' ')?;
+            copies.extend_from_slice(field)?;
+            copies.push(b'\n')?;
+        }
+    }
+    Ok(copies)
+}
+
+/// A peer who connects, and no more.
+fn come_and_go<R: Net<Stream = TcpStream>>(
+    rt: &R,
+    alloc: Global,
+    address: SocketAddr,
+) -> Option<()> {
+    let _peer = peer_of(rt, alloc, address)?;
+    Some(())
+}
+
+fn config_of(alloc: Global) -> Result<Config, NoMemory>
+    ensures { IfOk result IsConfig }
+{
+    match read_header(alloc, CONFIG) {
+        Ok((config, _)) => Ok(config),
+        Err(_) => Err(NoMemory),
+    }
+}
+
+/// The server's plan, for so many connections and the quotes of a file.
+fn plan_of(alloc: Global, connections: u32, quotes: &str) -> Result<ServePlan, NoMemory>
+    requires { connections ≤ 64 }
+    ensures { IfOk result (λ plan. plan.connections ≤ 64) }
+{
+    Ok(ServePlan {
+        config: String::new(alloc),
+        address: String::new(alloc),
+        connections,
+        quotes: Some(String::from_str(alloc, quotes)?),
+    })
+}
+
+/// The drop session C, which gets copies of the reports of both members, at the listener.
+fn session_of(
+    alloc: Global,
+    config: &Config,
+    listener: TcpListener,
+) -> Result<CopySession, NoMemory>
+    requires { IsConfig config.now }
+    ensures { IfOk result (λ session. AreConfigured session.desk.members config.now) }
+{
+    let mut members = Vec::new(alloc);
+    members.push(String::from_str(alloc, "B")?)?;
+    members.push(String::from_str(alloc, "A")?)?;
+    let plan = DropPlan {
+        address: String::new(alloc),
+        name: String::from_str(alloc, "C")?,
+        members,
+    };
+    match copies_of(alloc, plan, config) {
+        Ok(copies) => Ok(CopySession {
+            listener,
+            desk: copies.desk,
+        }),
+        Err(_) => Err(NoMemory),
+    }
+}
+
+/// The exit status of the server at the listeners, and its listing.
+fn served<R: Threads + Wait + Sync + rt::Clock>(
+    rt: &R,
+    system: &HostRuntime,
+    listener: &TcpListener,
+    drop_listener: TcpListener,
+    connections: u32,
+    quotes: &str,
+) -> Result<(u8, Vec<u8>), NoMemory>
+    requires { connections ≤ 64 }
+{
+    let alloc = system.alloc();
+    let config = config_of(alloc)?;
+    let plan = plan_of(alloc, connections, quotes)?;
+    let session = session_of(alloc, &config, drop_listener)?;
+    let mut out = MemSink::new(alloc, Vec::new(alloc));
+    let server = Server {
+        alloc,
+        plan: &plan,
+        config: &config,
+        listener,
+        system,
+    };
+    let status = serve(rt, &server, Some(session), &mut out)?;
+    Ok((exit_code(status), Vec::from_slice(alloc, out.bytes())?))
+}
+
+/// How many lines begin with this byte.
+fn lines_of(listing: &[u8], kind: u8) -> usize {
+    listing
+        .split(|byte| *byte == b'\n')
+        .filter(|line| line.first() == Some(&kind))
+        .count()
+}
+
+#[test]
+fn a_fill_reaches_the_member_who_waits_and_copies_go_out(rt: HostRuntime) -> Result<(), Fail> {
+    let alloc = rt.alloc();
+    let name = "quotes.tmp";
+    fs::write(&rt, name, QUOTES)?;
+    let listener = TcpListener::bind(&rt, "127.0.0.1:0")?;
+    let drop_listener = TcpListener::bind(&rt, "127.0.0.1:0")?;
+    let address = listener.local_addr()?;
+    let drop_address = drop_listener.local_addr()?;
+    let (server, client) = join(
+        &rt,
+        || served(&rt, &rt, &listener, drop_listener, 2, name),
+        || trade(&rt, alloc, address, drop_address),
+    );
+    fs::remove_file(&rt, name)?;
+    let (exit, listing) = server?;
+    let Some(heard) = client else {
+        return Err(Fail::from("a step did not come"));
+    };
+    assert_eq!(rt; copies_in(alloc, heard.as_slice())?.as_slice(), COPIES);
+    assert_eq!(rt; exit, 0);
+    assert_eq!(rt; lines_of(listing.as_slice(), b'S'), 1);
+    assert_eq!(rt; lines_of(listing.as_slice(), b'J'), 4);
+    assert_eq!(rt; lines_of(listing.as_slice(), b'R'), 5);
+    Ok(())
+}
+
+#[test]
+fn nobody_is_waited_for_at_the_drop_address(rt: HostRuntime) -> Result<(), Fail> {
+    let alloc = rt.alloc();
+    let listener = TcpListener::bind(&rt, "127.0.0.1:0")?;
+    let drop_listener = TcpListener::bind(&rt, "127.0.0.1:0")?;
+    let address = listener.local_addr()?;
+    let (server, client) = join(
+        &rt,
+        || served(&rt, &rt, &listener, drop_listener, 1, "no-quotes.tmp"),
+        || come_and_go(&rt, alloc, address).is_some(),
+    );
+    let (exit, _) = server?;
+    assert!(rt; client);
+    assert_eq!(rt; exit, 5);
+    Ok(())
+}

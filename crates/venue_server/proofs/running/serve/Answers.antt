@@ -1,0 +1,15 @@
+-- The first seats of the venue have all parts, and what was listed was listed under the status of the run.
+use Rattle.venue_server.proofs.Listings.{lists_as}
+use Rattle.venue_server.proofs.Seats.{first_parts}
+use Rattle.venue_server.proofs.running.serve.Goals as goal
+
+pub serve_books-requires-clause-seats : goal.serve_books-requires-clause-seats
+serve_books-requires-clause-seats g c κs within = record {
+  are = c.in_ok-venue.ensures.seats;
+  have = first_parts c.in_ok-venue.seats c.in_ok-venue.ensures.first;
+}
+
+pub returns-clause-listed : goal.returns-clause-listed
+returns-clause-listed g c =
+    lists_as c.args.server.now.config.now c.close_and_list-listed.result c.status_of.result (g.K.Sink.told c.args.out.now)
+    (g.K.Sink.told c.close_and_list-listed.new.out) c.status_of.ensures.done c.close_and_list-listed.ensures.listed

@@ -1,0 +1,196 @@
+//! What a run begins with: the venue and the drop session that its words ask for.
+ghost use Rattle.std.specs.Prelude.{◌≡◌, ◌≢◌, ◌≤◌, ◌++◌, ◌∷◌, [], Err, Some, None, IfOk, IfSome, OnOk, codes, length, map, option_map, string_bytes};
+ghost use Rattle.program_words.specs.Words.{remaining, texts};
+ghost use Rattle.venue_words.specs.Causes.{Rose};
+ghost use Rattle.venue_words.specs.Conditions.{IsConfig};
+ghost use Rattle.drop_copy.specs.Desks.{AreConfigured, AreRising, fresh_drop};
+ghost use Rattle.drop_copy.specs.Plans.{members_of};
+ghost use Rattle.venue_server.specs.Asking.{AsksFor, IsDeskOf, IsSplit, Splits, plan_words};
+
+use drop_copy::{DropDesk, DropPlan, drop_members};
+use io_edge::Shelf;
+use program_words::{WordFault, read_words};
+use serve_core::{ServePlan, SetupFault, serve_setup};
+use std::alloc::Global;
+use venue_words::{Bytes, Config, NoMemory};
+
+/// How many words ask for the venue where a drop session is asked for.
+const VENUE_WORDS: usize = 4;
+
+/// How many words there are at least then.
+const FEWEST_WORDS: usize = 7;
+
+/// A drop session that is asked for: the address at which its connection is taken, and its desk.
+#[derive(Drop)]
+pub struct Copies {
+    pub address: String,
+    pub desk: DropDesk,
+}
+
+/// What a run begins with.
+#[derive(Drop)]
+pub struct Setup {
+    pub plan: ServePlan,
+    pub config: Config,
+    pub copies: Option<Copies>,
+}
+
+/// The words of a run with a drop session: those that ask for the venue, in a form of their own, and the session's plan.
+#[derive(Drop)]
+pub struct Split {
+    pub venue: Vec<String>,
+    pub plan: DropPlan,
+}
+
+/// Adds these words.
+fn push_words(alloc: Global, list: &mut Vec<String>, words: &[&str]) -> Result<(), NoMemory>
+    ensures { OnOk result (texts list.new.items ≡ texts list.old.items ++ map (λ word. word.now) words.now) }
+{
+    for word in words {
+        list.push(String::from_str(alloc, word)?)?;
+    }
+    Ok(())
+}
+
+/// The same words behind a `--`, which keeps each as it is.
+fn kept_words(alloc: Global, words: &[&str]) -> Result<Vec<String>, NoMemory>
+    ensures { IfOk result (λ list. texts list.items ≡ codes "--" ∷ map (λ word. word.now) words.now) }
+{
+    let mut list = Vec::new(alloc);
+    push_words(alloc, &mut list, &["--"])?;
+    push_words(alloc, &mut list, words)?;
+    Ok(list)
+}
+
+/// The plan that an address, a name and names of members make.
+fn plan_of(alloc: Global, words: &[&str]) -> Result<DropPlan, NoMemory>
+    requires { 2 ≤ length words.now }
+    ensures { IfOk result (λ plan. plan_words plan ≡ map (λ word. word.now) words.now) }
+{
+    let mut members = Vec::new(alloc);
+    push_words(alloc, &mut members, &words[2..])?;
+    Ok(DropPlan {
+        address: String::from_str(alloc, words[0])?,
+        name: String::from_str(alloc, words[1])?,
+        members,
+    })
+}
+
+/// The same, of words that remain.
+fn split_read(alloc: Global, words: &[&str]) -> Result<Split, NoMemory>
+    requires { 7 ≤ length words.now }
+    ensures { IfOk result (λ split. IsSplit (map (λ word. word.now) words.now) split) }
+{
+    let (venue, copies) = words.split_at(VENUE_WORDS);
+    Ok(Split {
+        venue: kept_words(alloc, venue)?,
+        plan: plan_of(alloc, copies)?,
+    })
+}
+
+/// The words of a run with a drop session, and nothing where fewer than seven remain.
+fn split_words(alloc: Global, words: &[String]) -> Result<Option<Split>, WordFault>
+    ensures { IfOk result (Splits (remaining (texts words.now))) }
+{
+    let read = match read_words(alloc, words) {
+        Ok(read) => read,
+        Err(fault) => return Err(fault),
+    };
+    if read.len() < FEWEST_WORDS {
+        return Ok(None);
+    }
+    match split_read(alloc, read.as_slice()) {
+        Ok(split) => Ok(Some(split)),
+        Err(_) => Err(WordFault::NoMemory),
+    }
+}
+
+/// The desk of a session that gets copies of the reports of these members.
+fn desk_of(
+    alloc: Global,
+    name: &str,
+    members: Vec<u32>,
+    config: &Config,
+) -> Result<DropDesk, NoMemory>
+    requires configured { AreConfigured members.items config.now }
+    requires rising { AreRising members.items }
+    ensures { IfOk result (λ desk. desk ≡ fresh_drop name.now members.items) }
+{
+    let name = Bytes::copy_of(alloc, name.as_bytes())?;
+    DropDesk::new(alloc, name, members, config)
+}
+
+/// The drop session of a plan, where that is lawful for the config.
+pub fn copies_of(alloc: Global, plan: DropPlan, config: &Config) -> Result<Copies, SetupFault>
+    requires { IsConfig config.now }
+    ensures address { IfOk result (λ copies. copies.address ≡ plan.address) }
+    ensures desk { IfOk result (λ copies. IsDeskOf config.now (string_bytes plan.name) (texts plan.members.items) copies.desk) }
+    ensures members { IfOk result (λ copies. AreConfigured copies.desk.members config.now) }
+    ensures read { result ≢ Err SetupFault.ReadFault }
+{
+    let members = match drop_members(alloc, &plan, config) {
+        Ok(Some(members)) => members,
+        Ok(None) => return Err(SetupFault::BadWords),
+        Err(_) => return Err(SetupFault::NoMemory),
+    };
+    match desk_of(alloc, plan.name.as_str(), members, config) {
+        Ok(desk) => Ok(Copies {
+            address: plan.address,
+            desk,
+        }),
+        Err(_) => Err(SetupFault::NoMemory),
+    }
+}
+
+/// The venue that the words of a run with a drop session ask for, and that session.
+fn set_up_both<H: Shelf>(alloc: Global, split: Split, shelf: &mut H) -> Result<Setup, SetupFault>
+    ensures config { IfOk result (λ setup. IsConfig setup.config) }
+    ensures connections { IfOk result (λ setup. setup.plan.connections ≤ 64) }
+    ensures copies { IfOk result (λ setup. IfSome setup.copies (λ copies. (copies.address ≡ split.plan.address)
+        × IsDeskOf setup.config (string_bytes split.plan.name) (texts split.plan.members.items) copies.desk
+        × AreConfigured copies.desk.members setup.config)) }
+    ensures some { IfOk result (λ setup. setup.copies ≢ None) }
+    ensures later { H.faults shelf.old ≤ H.faults shelf.new }
+    ensures read { result ≡ Err SetupFault.ReadFault → Rose (H.faults shelf.old) (H.faults shelf.new) }
+{
+    let (plan, config) = match serve_setup(alloc, split.venue.as_slice(), shelf) {
+        Ok(setup) => setup,
+        Err(fault) => return Err(fault),
+    };
+    match copies_of(alloc, split.plan, &config) {
+        Ok(copies) => Ok(Setup {
+            plan,
+            config,
+            copies: Some(copies),
+        }),
+        Err(fault) => Err(fault),
+    }
+}
+
+/// The venue that the words ask for, with the config of the whole file that they name, and the drop session, if they ask for one.
+/// Words whose session has no lawful name or whose members are not the config's, each once, are bad words.
+pub fn set_up<H: Shelf>(alloc: Global, words: &[String], shelf: &mut H) -> Result<Setup, SetupFault>
+    ensures config { IfOk result (λ setup. IsConfig setup.config) }
+    ensures connections { IfOk result (λ setup. setup.plan.connections ≤ 64) }
+
+    // The session is the one that the words ask for, and its members are configured.
+    ensures copies { IfOk result (λ setup. AsksFor setup.config (remaining (texts words.now)) setup.copies) }
+    ensures members { IfOk result (λ setup. IfSome setup.copies (λ copies. AreConfigured copies.desk.members setup.config)) }
+
+    ensures later { H.faults shelf.old ≤ H.faults shelf.new }
+    ensures read { result ≡ Err SetupFault.ReadFault → Rose (H.faults shelf.old) (H.faults shelf.new) }
+{
+    match split_words(alloc, words) {
+        Ok(Some(split)) => set_up_both(alloc, split, shelf),
+        Ok(None) => match serve_setup(alloc, words, shelf) {
+            Ok((plan, config)) => Ok(Setup {
+                plan,
+                config,
+                copies: None,
+            }),
+            Err(fault) => Err(fault),
+        },
+        Err(WordFault::BadWords) => Err(SetupFault::BadWords),
+        Err(WordFault::NoMemory) => Err(SetupFault::NoMemory),
+    }
+}
