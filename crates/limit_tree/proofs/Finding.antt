@@ -5,7 +5,7 @@ use Rattle.std.specs.Bool.{MatchBool}
 use Rattle.std.specs.List.{AllByRecursion}
 use Rattle.venue_words.specs.ListLaws.{all_both, all_weaken, all_append}
 use Rattle.venue_words.specs.declared.row.Row.{Row}
-use Rattle.limit_tree.specs.Order.{rank, row_rank, IsOrdered, IsNumbered, is_held, least_entry}
+use Rattle.limit_tree.specs.Order.{pair_rank, row_rank, IsOrdered, HasShortNumbers, is_held, least_entry}
 use Rattle.limit_tree.specs.Looks.{FindsLeast, FindsGreatestBelow, FindsLeastEntry, FindsGreatestCap, IsLeastWhere, IsGreatestCap}
 use Rattle.limit_tree.proofs.InOrder.{all_front, all_back, ordered_back}
 use Rattle.limit_tree.proofs.Inserting.{before_middle, numbered_middle}
@@ -45,14 +45,14 @@ caps_before front row back o =
     all_weaken {A = Row} (λ earlier. row_rank earlier < row_rank row) (λ earlier. earlier.cap ≤ row.cap) (λ earlier h. omega (arith, h, n.1)) front (before_middle front row back o)
 
 -- each row has numbers of 32 bits
-pub all_numbered : (rows : List Row) → IsOrdered rows → AllByRecursion IsNumbered rows
+pub all_numbered : (rows : List Row) → IsOrdered rows → AllByRecursion HasShortNumbers rows
 all_numbered [] o = tt
 all_numbered (row ∷ rows) o = (o.0, all_numbered rows o.2)
 
 pub caps_behind : (front : List Row) (row : Row) (back : List Row) → IsOrdered (front ++ row ∷ back) → AllByRecursion (λ later. row.cap ≤ later.cap) back
 caps_behind front row back o =
     let b = ordered_back front (row ∷ back) o in
-    all_both {A = Row} (λ later. row_rank row < row_rank later) IsNumbered (λ later. row.cap ≤ later.cap) (λ later h n. omega (arith, h, n.1)) back b.1 (all_numbered back b.2)
+    all_both {A = Row} (λ later. row_rank row < row_rank later) HasShortNumbers (λ later. row.cap ≤ later.cap) (λ later h n. omega (arith, h, n.1)) back b.1 (all_numbered back b.2)
 
 -- rows of one cap behind a row have greater entries
 entries_behind : (front : List Row) (row : Row) (back : List Row) → IsOrdered (front ++ row ∷ back) → AllByRecursion (λ later. later.cap ≡ row.cap → row.entry ≤ later.entry) back
@@ -89,7 +89,7 @@ first_is_row front row back o a = record {
 -- the first of a cap stands in front
 pub first_in_front : (front : List Row) (row : Row) (back : List Row) (pair : ℕ × ℕ) → IsOrdered (front ++ row ∷ back) → IsLeastWhere (λ cap. cap ≡ row.cap) front pair → IsLeastWhere (λ cap. cap ≡ row.cap) (front ++ row ∷ back) pair
 first_in_front front row back pair o f =
-    let earlier : rank pair.0 pair.1 < row_rank row = at_held (λ cap entry. rank cap entry < row_rank row) pair.0 pair.1 front (before_middle front row back o) f.held in
+    let earlier : pair_rank pair.0 pair.1 < row_rank row = at_held (λ cap entry. pair_rank cap entry < row_rank row) pair.0 pair.1 front (before_middle front row back o) f.held in
     let less : pair.1 ≤ row.entry = omega (arith, f.fits, earlier) in
     record {
       fits = f.fits;
@@ -125,7 +125,7 @@ greatest_in_back value front row back cap o f =
     }
 
 -- the least entry of rows is held, where there are rows
-pub least_held : (row : Row) (rows : List Row) → AllByRecursion IsNumbered (row ∷ rows) → (cap : ℕ) × (is_held cap (least_entry (row ∷ rows)) (row ∷ rows) ≡ true)
+pub least_held : (row : Row) (rows : List Row) → AllByRecursion HasShortNumbers (row ∷ rows) → (cap : ℕ) × (is_held cap (least_entry (row ∷ rows)) (row ∷ rows) ≡ true)
 least_held row [] n =
     let h : row.entry < 2 ^ 32 = n.0.1 in
     let e : row.entry ≡ least_entry (row ∷ []) = omega arith in
@@ -202,7 +202,7 @@ least_is_held_of row rows entry o above =
           let held = least_held row rows (all_numbered (row ∷ rows) o) in
           (held.0, subst (λ (b : ℕ). is_held held.0 b (row ∷ rows) ≡ true) (eqb-true (least_entry (row ∷ rows)) entry e) held.1)
       | false ↦ λ e cap. false_from_ne_true _ (λ h.
-          let less : entry ≤ least_entry (row ∷ rows) = least_above_all (row ∷ rows) entry above (at_held (λ c b. b ≤ 4294967295) cap entry (row ∷ rows) (all_weaken {A = Row} IsNumbered (λ r. r.entry ≤ 4294967295) (λ r n. let k : r.entry < 2 ^ 32 = n.1 in omega arith) (row ∷ rows) (all_numbered (row ∷ rows) o)) h) in
+          let less : entry ≤ least_entry (row ∷ rows) = least_above_all (row ∷ rows) entry above (at_held (λ c b. b ≤ 4294967295) cap entry (row ∷ rows) (all_weaken {A = Row} HasShortNumbers (λ r. r.entry ≤ 4294967295) (λ r n. let k : r.entry < 2 ^ 32 = n.1 in omega arith) (row ∷ rows) (all_numbered (row ∷ rows) o)) h) in
           let more : least_entry (row ∷ rows) ≤ entry = at_held (λ c b. least_entry (row ∷ rows) ≤ b) cap entry (row ∷ rows) (least_below (row ∷ rows)) h in
           eqb-false (least_entry (row ∷ rows)) entry e (omega arith))
     ] refl

@@ -4,7 +4,7 @@ use Rattle.std.proofs.lemmas.Bool.{ltb-true, ltb-false, lt-ltb, le-ltb, eq-eqb}
 use Rattle.std.specs.List.{AllByRecursion}
 use Rattle.venue_words.specs.ListLaws.{all_weaken}
 use Rattle.venue_words.specs.declared.row.Row.{Row}
-use Rattle.limit_tree.specs.Order.{row_rank, IsOrdered, IsNumbered, IsFree, insert_row, is_held}
+use Rattle.limit_tree.specs.Order.{row_rank, IsOrdered, HasShortNumbers, IsFree, insert_row, is_held}
 use Rattle.limit_tree.proofs.InOrder.{all_front, all_back}
 
 or_second : (a b : Bool) → (a || b) ≡ false → b ≡ false
@@ -19,7 +19,7 @@ ltb-same a b c d less more =
       | false ↦ λ e. sym (le-ltb c d (more (ltb-false a b e)))
     ] refl
 
-pub numbered_middle : (front : List Row) (row : Row) (back : List Row) → IsOrdered (front ++ row ∷ back) → IsNumbered row
+pub numbered_middle : (front : List Row) (row : Row) (back : List Row) → IsOrdered (front ++ row ∷ back) → HasShortNumbers row
 numbered_middle [] row back o = o.0
 numbered_middle (first ∷ front) row back o = numbered_middle front row back o.2
 
@@ -51,13 +51,13 @@ all_insert P x (first ∷ rows) p a =
     ]
 
 -- rows of another pair have another place
-pub other_rank : (x row : Row) → IsNumbered x → IsNumbered row → (row.cap ≡ x.cap → row.entry ≢ x.entry) → row_rank row ≢ row_rank x
+pub other_rank : (x row : Row) → HasShortNumbers x → HasShortNumbers row → (row.cap ≡ x.cap → row.entry ≢ x.entry) → row_rank row ≢ row_rank x
 other_rank x row m n free = λ e.
     let same_cap : row.cap ≡ x.cap = omega arith in
     let same_entry : row.entry ≡ x.entry = omega arith in
     free same_cap same_entry
 
-pub ordered_insert : (x : Row) (rows : List Row) → IsNumbered x → IsFree x.cap x.entry rows → IsOrdered rows → IsOrdered (insert_row x rows)
+pub ordered_insert : (x : Row) (rows : List Row) → HasShortNumbers x → IsFree x.cap x.entry rows → IsOrdered rows → IsOrdered (insert_row x rows)
 ordered_insert x [] n free o = (n, tt, tt)
 ordered_insert x (first ∷ rows) n free o =
     elim (ltb (row_rank x) (row_rank first)) as (λ v. ltb (row_rank x) (row_rank first) ≡ v → IsOrdered (cond v (x ∷ first ∷ rows) (first ∷ insert_row x rows))) [
@@ -95,7 +95,7 @@ insert_to_left {rows} {front} {back} {row} x s h = rw s.is (insert_left x front 
 pub insert_to_right : {rows front back : List Row} {row : Row} (x : Row) → IsSplit rows front row back → row_rank row ≤ row_rank x → insert_row x rows ≡ front ++ row ∷ insert_row x back
 insert_to_right {rows} {front} {back} {row} x s h = rw s.is (insert_right x front row back h s.ordered)
 
-pub ordered_after : {rows front back : List Row} {row : Row} (x : Row) → IsNumbered x → IsSplit rows front row back → IsFree x.cap x.entry rows → IsOrdered (insert_row x rows)
+pub ordered_after : {rows front back : List Row} {row : Row} (x : Row) → HasShortNumbers x → IsSplit rows front row back → IsFree x.cap x.entry rows → IsOrdered (insert_row x rows)
 ordered_after {rows} x n s f = ordered_insert x rows n f (rw s.is s.ordered)
 
 -- a pair that is not held is free

@@ -4,7 +4,7 @@ use Rattle.std.proofs.lemmas.Bool.{eq-eqb, ne_eqb, cases_eq, and_left, and_right
 use Rattle.std.specs.List.{AllByRecursion}
 use Rattle.venue_words.specs.ListLaws.{all_weaken}
 use Rattle.venue_words.specs.declared.row.Row.{Row}
-use Rattle.limit_tree.specs.Order.{rank, row_rank, IsAt, IsOrdered, without_row, row_at, is_held}
+use Rattle.limit_tree.specs.Order.{pair_rank, row_rank, IsAt, IsOrdered, without_row, row_at, is_held}
 use Rattle.limit_tree.proofs.InOrder.{ordered_back}
 use Rattle.limit_tree.proofs.Inserting.{before_middle, IsSplit}
 
@@ -14,10 +14,10 @@ tests cap entry row = eqb row.cap cap && eqb row.entry entry
 
 -- each row has another place
 abbrev pub AreOther : ℕ → ℕ → List Row → Type 0
-AreOther cap entry rows = AllByRecursion (λ row. row_rank row ≢ rank cap entry) rows
+AreOther cap entry rows = AllByRecursion (λ row. row_rank row ≢ pair_rank cap entry) rows
 
 -- at another place the test fails
-pub tests-other : (cap entry : ℕ) (row : Row) → row_rank row ≢ rank cap entry → tests cap entry row ≡ false
+pub tests-other : (cap entry : ℕ) (row : Row) → row_rank row ≢ pair_rank cap entry → tests cap entry row ≡ false
 tests-other cap entry row other =
     elim (cases_eq row.cap cap) [
       | inr differs ↦ and_left _ _ (ne_eqb row.cap cap differs)
@@ -68,15 +68,15 @@ held-stop cap entry [] rest o = held-none cap entry rest o
 held-stop cap entry (row ∷ front) rest o = ap (λ found. tests cap entry row || found) (held-stop cap entry front rest o)
 
 -- the rows from a row on have other places than an earlier one
-later_other : (cap entry : ℕ) (front : List Row) (row : Row) (back : List Row) → rank cap entry < row_rank row → IsOrdered (front ++ row ∷ back) → AreOther cap entry (row ∷ back)
+later_other : (cap entry : ℕ) (front : List Row) (row : Row) (back : List Row) → pair_rank cap entry < row_rank row → IsOrdered (front ++ row ∷ back) → AreOther cap entry (row ∷ back)
 later_other cap entry front row back h o =
     let behind = ordered_back front (row ∷ back) o in
-    ((λ e. omega arith), all_weaken {A = Row} (λ later. row_rank row < row_rank later) (λ later. row_rank later ≢ rank cap entry) (λ later k e. omega arith) back behind.1)
+    ((λ e. omega arith), all_weaken {A = Row} (λ later. row_rank row < row_rank later) (λ later. row_rank later ≢ pair_rank cap entry) (λ later k e. omega arith) back behind.1)
 
 -- the rows in front of a row have other places than it or a later one
-earlier_other : (cap entry : ℕ) (front : List Row) (row : Row) (back : List Row) → row_rank row ≤ rank cap entry → IsOrdered (front ++ row ∷ back) → AreOther cap entry front
+earlier_other : (cap entry : ℕ) (front : List Row) (row : Row) (back : List Row) → row_rank row ≤ pair_rank cap entry → IsOrdered (front ++ row ∷ back) → AreOther cap entry front
 earlier_other cap entry front row back h o =
-    all_weaken {A = Row} (λ earlier. row_rank earlier < row_rank row) (λ earlier. row_rank earlier ≢ rank cap entry) (λ earlier k e. omega arith) front (before_middle front row back o)
+    all_weaken {A = Row} (λ earlier. row_rank earlier < row_rank row) (λ earlier. row_rank earlier ≢ pair_rank cap entry) (λ earlier k e. omega arith) front (before_middle front row back o)
 
 -- what the three look-ups find on the left of a row
 pub record IsLeft (cap entry : ℕ) (rows front : List Row) (row : Row) (back : List Row) : Type 0 where
@@ -84,7 +84,7 @@ pub record IsLeft (cap entry : ℕ) (rows front : List Row) (row : Row) (back : 
   pub others : without_row cap entry rows ≡ without_row cap entry front ++ row ∷ back
   pub held : is_held cap entry rows ≡ is_held cap entry front
 
-pub goes_left : {rows front back : List Row} {row : Row} (cap entry : ℕ) → IsSplit rows front row back → rank cap entry < row_rank row → IsLeft cap entry rows front row back
+pub goes_left : {rows front back : List Row} {row : Row} (cap entry : ℕ) → IsSplit rows front row back → pair_rank cap entry < row_rank row → IsLeft cap entry rows front row back
 goes_left {rows} {front} {back} {row} cap entry s h =
     let o = later_other cap entry front row back h s.ordered in
     record {
@@ -99,7 +99,7 @@ pub record IsRight (cap entry : ℕ) (rows front : List Row) (row : Row) (back :
   pub others : without_row cap entry rows ≡ front ++ row ∷ without_row cap entry back
   pub held : is_held cap entry rows ≡ is_held cap entry back
 
-pub goes_right : {rows front back : List Row} {row : Row} (cap entry : ℕ) → IsSplit rows front row back → row_rank row < rank cap entry → IsRight cap entry rows front row back
+pub goes_right : {rows front back : List Row} {row : Row} (cap entry : ℕ) → IsSplit rows front row back → row_rank row < pair_rank cap entry → IsRight cap entry rows front row back
 goes_right {rows} {front} {back} {row} cap entry s h =
     let o = earlier_other cap entry front row back (omega arith) s.ordered in
     let here = tests-other cap entry row (λ e. omega arith) in

@@ -4,21 +4,21 @@ use Rattle.std.specs.List.{AllByRecursion}
 use Rattle.venue_words.specs.declared.row.Row.{Row}
 
 -- the place of a pair of cap and entry in the order
-abbrev pub rank : ℕ → ℕ → ℕ
-rank cap entry = cap * 2 ^ 32 + entry
+abbrev pub pair_rank : ℕ → ℕ → ℕ
+pair_rank cap entry = cap * 2 ^ 32 + entry
 
 -- the place of a row in the order
 abbrev pub row_rank : Row → ℕ
-row_rank row = rank row.cap row.entry
+row_rank row = pair_rank row.cap row.entry
 
 -- the numbers of a row fit 32 bits
-abbrev pub IsNumbered : Row → Type 0
-IsNumbered row = (row.cap < 2 ^ 32) × (row.entry < 2 ^ 32)
+abbrev pub HasShortNumbers : Row → Type 0
+HasShortNumbers row = (row.cap < 2 ^ 32) × (row.entry < 2 ^ 32)
 
 -- each row has numbers of 32 bits and stands before all later rows
 abbrev pub IsOrdered : List Row → Type 0
 IsOrdered [] = Unit {0}
-IsOrdered (row ∷ rows) = IsNumbered row × AllByRecursion (λ later. row_rank row < row_rank later) rows × IsOrdered rows
+IsOrdered (row ∷ rows) = HasShortNumbers row × AllByRecursion (λ later. row_rank row < row_rank later) rows × IsOrdered rows
 
 -- the rows with one more in its place
 abbrev pub insert_row : Row → List Row → List Row

@@ -1,7 +1,7 @@
 //! One more row in a part of the tree.
 ghost use Rattle.std.specs.Prelude.{◌*◌, ◌<◌, ◌≡◌, ◌+◌, ◌≤◌, nat_lt};
 ghost use Rattle.limit_tree.specs.Link.{link_rows, link_height};
-ghost use Rattle.limit_tree.specs.Order.{row_rank, IsNumbered, IsFree, insert_row};
+ghost use Rattle.limit_tree.specs.Order.{row_rank, HasShortNumbers, IsFree, insert_row};
 ghost use Rattle.limit_tree.specs.Part.{IsLeaf};
 
 use crate::balance::balance;
@@ -27,7 +27,7 @@ pub fn put_into<L: Ledger>(
     steps: &mut Steps<L>,
 ) -> Box<Node>
     requires alone { IsLeaf node.value }
-    requires numbered { IsNumbered node.value.row }
+    requires numbered { HasShortNumbers node.value.row }
     requires free { IsFree node.value.row.cap node.value.row.entry (link_rows link) }
     ensures rows { result.value.rows ≡ insert_row node.value.row (link_rows link) }
     ensures not_lower { link_height link ≤ result.value.height }

@@ -5,7 +5,7 @@ ghost use Rattle.std.specs.List.{AllByRecursion};
 ghost use Rattle.std.specs.Ordering.{MatchOrdering};
 ghost use Rattle.limit_tree.specs.Link.{link_rows, link_height};
 ghost use Rattle.limit_tree.specs.Looks.{FindsLeast, FindsLeastEntry, FindsGreatestCap, IsLeastWhere};
-ghost use Rattle.limit_tree.specs.Order.{rank, row_rank, IsAt, highest_cap, is_held};
+ghost use Rattle.limit_tree.specs.Order.{pair_rank, row_rank, IsAt, highest_cap, is_held};
 
 use crate::node::{Node, least_of};
 use std::cmp::Ordering;
@@ -14,7 +14,7 @@ use venue_words::Steps;
 
 /// Where a pair stands, seen from a node.
 pub fn place_of(cap: u32, entry: u32, node: &Node) -> Ordering
-    ensures { MatchOrdering result (rank cap entry < row_rank node.now.row) (IsAt cap entry node.now.row) (row_rank node.now.row < rank cap entry) }
+    ensures { MatchOrdering result (pair_rank cap entry < row_rank node.now.row) (IsAt cap entry node.now.row) (row_rank node.now.row < pair_rank cap entry) }
 {
     if cap == node.cap {
         entry.cmp(&node.entry)

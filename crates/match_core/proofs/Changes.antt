@@ -14,7 +14,7 @@ use Rattle.venue_words.specs.Rows.{IsByEntry, IsAbsent, insert_by_entry, row_by_
 use Rattle.eager_meaning.specs.Changing.{without, with_leaves}
 use Rattle.eager_meaning.specs.Matching.{unfilled}
 use Rattle.peg_groups.specs.ByEntry.{later_found, insert_first, absent_without}
-use Rattle.peg_groups.specs.Side.{SideState, IsPlaced, IsHeldAt, NoneAt, IsCut, with_row}
+use Rattle.peg_groups.specs.Side.{SideState, IsRowAt, IsHeldAt, NoneAt, IsCut, with_row}
 
 pub all_found : (P : Priced → Type 0) (entry : ℕ) (rows : List Priced) (x : Priced) → AllByRecursion P rows → row_by_entry entry rows ≡ Some x → P x
 all_found P entry [] x a h = cc
@@ -26,7 +26,7 @@ all_found P entry (y ∷ rows) x a h =
 
 -- a held row isn't missing
 pub held_is_there : {A : Type 0} (key : Key) (cap entry : ℕ) (rows : List Priced) → ((x : Priced) × IsHeldAt key cap entry rows x) → NoneAt key cap entry rows → A
-held_is_there key cap entry rows h none = absurd (all_found (λ row. IsPlaced key cap entry row → ⊥) entry rows h.0 none h.1.held h.1.placed)
+held_is_there key cap entry rows h none = absurd (all_found (λ row. IsRowAt key cap entry row → ⊥) entry rows h.0 none h.1.held h.1.placed)
 
 pub without_absent : (entry : ℕ) (rows : List Priced) → IsAbsent entry rows → without entry rows ≡ rows
 without_absent entry [] a = refl

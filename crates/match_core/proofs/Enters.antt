@@ -8,8 +8,7 @@ use Rattle.eager_meaning.specs.declared.trade.Fill.{Fill}
 use Rattle.eager_meaning.specs.Entering.{entered}
 use Rattle.eager_meaning.specs.Matching.{row_after, rows_after, unfilled, takes_of, fills_of}
 use Rattle.eager_meaning.specs.Walk.{total_of}
-use Rattle.peg_groups.specs.Side.{SideState}
-use Rattle.match_core.specs.BothSides.{priced_at}
+use Rattle.peg_groups.specs.Side.{SideState, priced_at}
 use Rattle.match_core.specs.SidesView.{AreSides}
 use Rattle.match_core.specs.Sweeping.{one_if_left}
 use Rattle.match_core.proofs.Fewer.{length_left}

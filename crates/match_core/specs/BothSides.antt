@@ -5,11 +5,11 @@ use Rattle.venue_words.specs.declared.price.Side.{Side}
 use Rattle.venue_words.specs.declared.price.Side.TheVariants.{Buy, Sell}
 use Rattle.venue_words.specs.declared.row.Row.{Row}
 use Rattle.venue_words.specs.declared.row.Priced.{Priced}
-use Rattle.venue_words.specs.Peg.{value_under}
 use Rattle.venue_words.specs.Retime.{reprice}
 use Rattle.eager_meaning.specs.Entering.{Entered, entered}
 use Rattle.eager_meaning.specs.Recheck.{Matched, recheck}
 use Rattle.eager_meaning.specs.Showing.{row_of_order}
+use Rattle.peg_groups.specs.Side.{priced_at}
 
 -- for a buy the first, for a sell the second: the own side of buys and sells, or the buys of own and other rows
 abbrev pub own_of : Side → List Priced → List Priced → List Priced
@@ -20,10 +20,6 @@ own_of Sell x y = y
 abbrev pub others_of : Side → List Priced → List Priced → List Priced
 others_of Buy x y = y
 others_of Sell x y = x
-
--- a row priced by a quote, with its entry as its time
-abbrev pub priced_at : Best → Row → Priced
-priced_at best row = record { row = row; value = value_under best row; time = row.entry }
 
 -- what a new quote makes of both sides, and the trades
 abbrev pub requoted_rows : ℕ → Best → List Priced → List Priced → Matched

@@ -13,7 +13,8 @@ ghost use Rattle.eager_meaning.specs.Showing.{row_of_order};
 ghost use Rattle.eager_meaning.specs.Walk.{total_of};
 ghost use Rattle.eager_meaning.specs.Work.{key_count, examined_by, examined_in_recheck};
 ghost use Rattle.eager_meaning.specs.declared.trade.Fill.{Fill};
-ghost use Rattle.match_core.specs.BothSides.{own_of, others_of, priced_at, requoted_rows, entered_rows, Rests};
+ghost use Rattle.peg_groups.specs.Side.{priced_at};
+ghost use Rattle.match_core.specs.BothSides.{own_of, others_of, requoted_rows, entered_rows, Rests};
 
 use eager_meaning::Fill;
 use std::sync::ledger::Ledger;

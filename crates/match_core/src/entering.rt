@@ -8,9 +8,9 @@ ghost use Rattle.eager_meaning.specs.Entering.{entered};
 ghost use Rattle.eager_meaning.specs.Matching.{row_after, unfilled, takes_of};
 ghost use Rattle.eager_meaning.specs.Walk.{total_of};
 ghost use Rattle.eager_meaning.specs.Work.{examined_by};
-ghost use Rattle.peg_groups.specs.Side.{IsLaterThan};
+ghost use Rattle.peg_groups.specs.Side.{IsLaterThan, priced_at};
 ghost use Rattle.match_core.specs.Aside.{HasLeaves};
-ghost use Rattle.match_core.specs.BothSides.{own_of, others_of, priced_at, entered_rows};
+ghost use Rattle.match_core.specs.BothSides.{own_of, others_of, entered_rows};
 ghost use Rattle.match_core.specs.Rooms.{IsClear, IsReady};
 ghost use Rattle.match_core.specs.SidesView.{OnSide, AreSides};
 

@@ -14,7 +14,7 @@ use Rattle.venue_words.specs.declared.row.Key.{Key}
 use Rattle.venue_words.specs.declared.row.Priced.{Priced}
 use Rattle.venue_words.specs.declared.row.Row.{Row}
 use Rattle.peg_groups.specs.Flat.{ArePlaces, FillsPlace, IsNodeOf, IsPlace, IsThere, KeepsStanding, TakesBest, TakesOut, place_standing, place_value, row_with, rows_in, value_if_there, with_node, without_node, place_before}
-use Rattle.peg_groups.specs.Side.{IsCut, IsHeldAt, NoneAt, Standing, entered, standing_of, taken_row}
+use Rattle.peg_groups.specs.Side.{IsCut, IsHeldAt, NoneAt, Standing, priced_at, standing_of, taken_row}
 use Rattle.peg_groups.specs.declared.flat.Place.{Place}
 use Rattle.peg_groups.specs.declared.side_book.Taken.{Taken}
 use Rattle.peg_groups.proofs.FlatRows.{absent_after, in_at, out_at, places_added, rows_added}
@@ -64,7 +64,7 @@ keeps_append xs ys s k = record { i = k.i; place = k.place; at = get_append xs y
 abbrev new_place : Box Part Global → Row → Option ℕ → Place
 new_place node r value = record { node = Some node; key = r.key; cap = r.cap; entry = r.entry; value = value; time = r.entry }
 
-entered_at : (best : Best) (node : Box Part Global) (r : Row) (value : Option ℕ) → r ≡ node.value.row → value ≡ row_value (peg_value r.key best) r.cap → row_with node value r.entry ≡ entered best node.value.row
+entered_at : (best : Best) (node : Box Part Global) (r : Row) (value : Option ℕ) → r ≡ node.value.row → value ≡ row_value (peg_value r.key best) r.cap → row_with node value r.entry ≡ priced_at best node.value.row
 unfolding value_under
 entered_at best node r value e v =
     let own = v ∙ ap (λ (x : Row). row_value (peg_value x.key best) x.cap) e in
@@ -80,7 +80,7 @@ place_entered node r value e k l = record {
 
 pub record IsAdded (places new : List Place) (best : Best) (row : Row) : Type 0 where
   pub are : ArePlaces new
-  pub rows : rows_in new ≡ insert_by_entry (entered best row) (rows_in places)
+  pub rows : rows_in new ≡ insert_by_entry (priced_at best row) (rows_in places)
 
 pub row_added : (places new : List Place) (best : Best) (node : Box Part Global) (r : Row) (value : Option ℕ) → ArePlaces places → r ≡ node.value.row → value ≡ row_value (peg_value r.key best) r.cap → IsKey node.value.row.key → IsLeaf node.value → AllByRecursion (λ x. x.time < node.value.row.entry) (rows_in places) → new ≡ places ++ new_place node r value ∷ [] → IsAdded places new best node.value.row
 row_added places new best node r value a e v k l later left =

@@ -17,7 +17,7 @@ use Rattle.venue_words.specs.declared.row.Priced.{Priced}
 use Rattle.peg_groups.specs.Flat.{ArePlaces, IsNodeOf, IsPlace, IsThere, among, is_filled, place_before, place_value, repriced, row_with, rows_in, value_if_there}
 use Rattle.peg_groups.specs.KeyCount.{has_key, key_count}
 use Rattle.peg_groups.specs.Merge.{map-insert}
-use Rattle.peg_groups.specs.Side.{IsPlaced, NoneAt}
+use Rattle.peg_groups.specs.Side.{IsRowAt, NoneAt}
 use Rattle.peg_groups.specs.declared.flat.Place.{Place}
 use Rattle.peg_groups.proofs.Counting.{length_insert}
 use Rattle.peg_groups.proofs.FlatRows.{among_each, each_among}
@@ -29,7 +29,7 @@ Held = Option (Box Part Global)
 
 -- ---- no row of a key, a cap and an entry
 
-not_placed : (held : Held) (p : Place) (key : Key) (cap entry : ℕ) → p.node ≡ held → MatchOption held (Unit {0}) (λ n. IsNodeOf p n.value) → (IsThere key cap entry p → ⊥) → MatchOption held (Unit {0}) (λ n. IsPlaced key cap entry (row_with n p.value p.time) → ⊥)
+not_placed : (held : Held) (p : Place) (key : Key) (cap entry : ℕ) → p.node ≡ held → MatchOption held (Unit {0}) (λ n. IsNodeOf p n.value) → (IsThere key cap entry p → ⊥) → MatchOption held (Unit {0}) (λ n. IsRowAt key cap entry (row_with n p.value p.time) → ⊥)
 not_placed None p key cap entry e h f = tt
 not_placed (Some n) p key cap entry e h f =
     λ x. f (record { filled = ap is_some e; key_is = sym h.key_is ∙ x.key_is; cap_is = sym h.cap_is ∙ x.cap_is; entry_is = sym h.entry_is ∙ x.entry_is })
@@ -37,7 +37,7 @@ not_placed (Some n) p key cap entry e h f =
 pub none_there : (key : Key) (cap entry : ℕ) (places : List Place) → ArePlaces places → AllByRecursion (λ place. IsThere key cap entry place → ⊥) places → NoneAt key cap entry (rows_in places)
 none_there key cap entry [] a f = tt
 none_there key cap entry (p ∷ ps) a f =
-    each_among (λ row. IsPlaced key cap entry row → ⊥) p.node p.value p.time (rows_in ps) (not_placed p.node p key cap entry refl a.0.holds f.0) (none_there key cap entry ps a.1 f.1)
+    each_among (λ row. IsRowAt key cap entry row → ⊥) p.node p.value p.time (rows_in ps) (not_placed p.node p key cap entry refl a.0.holds f.0) (none_there key cap entry ps a.1 f.1)
 
 -- ---- the first row by priority
 

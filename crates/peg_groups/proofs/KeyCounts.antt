@@ -11,7 +11,7 @@ use Rattle.venue_words.specs.Rows.{insert_by_entry}
 use Rattle.limit_tree.specs.Order.{is_empty}
 use Rattle.move_history.specs.Staircase.{Staircase}
 use Rattle.peg_groups.specs.Group.{priced_in}
-use Rattle.peg_groups.specs.Groups.{merged, rows_of, IsRowOf, AreGroups, is_used}
+use Rattle.peg_groups.specs.Groups.{merged, rows_of, IsRowOf, AreGroups, has_rows}
 use Rattle.peg_groups.specs.KeyCount.{has_key, key_count}
 use Rattle.peg_groups.specs.declared.group.Group.{Group}
 use Rattle.peg_groups.proofs.SideSteps.{other_keys}
@@ -91,8 +91,8 @@ count_step true n k e es h = h
 count_step false n k e es h = omega arith
 
 -- the keys of a side of groups are those of its groups with a row
-pub key_count_used : (best : Best) (event : ℕ) (es : List (Key × Group)) → AreGroups best event es → key_count (rows_of es) ≡ length (filter is_used es)
+pub key_count_used : (best : Best) (event : ℕ) (es : List (Key × Group)) → AreGroups best event es → key_count (rows_of es) ≡ length (filter has_rows es)
 key_count_used best event [] a = refl
 key_count_used best event (e ∷ es) a =
     count_merged e.0 e.1.moves e.1.tree (rows_of es) a.0.rows (none_has e.0 (rows_of es) (other_keys best event e.0 es a.3 a.2))
-    ∙ count_step (is_empty e.1.tree) (key_count (rows_of es)) 0 e (filter is_used es) (key_count_used best event es a.3)
+    ∙ count_step (is_empty e.1.tree) (key_count (rows_of es)) 0 e (filter has_rows es) (key_count_used best event es a.3)

@@ -4,7 +4,7 @@ use Rattle.limit_tree.specs.Order.{is_empty, insert_row, row_rank}
 use Rattle.venue_words.specs.declared.price.Best.{Best}
 use Rattle.venue_words.specs.declared.row.Key.{Key}
 use Rattle.venue_words.specs.declared.row.Row.{Row}
-use Rattle.peg_groups.specs.Groups.{EntersGroup, HaveRoom, HaveRows, IsMoved, IsRoomier, PairedBy, ReservesGroups, is_used, with_rows}
+use Rattle.peg_groups.specs.Groups.{EntersGroup, HaveRoom, HaveRows, IsMoved, IsRoomier, PairedBy, ReservesGroups, has_rows, with_rows}
 use Rattle.peg_groups.specs.declared.group.Group.{Group}
 use Rattle.peg_groups.proofs.GroupSteps.{each_set}
 use Rattle.peg_groups.proofs.Repricing.{each_used, paired_length}
@@ -43,20 +43,20 @@ roomier_same [] = tt
 roomier_same (e ∷ es) = (refl, record { tree = refl; moves = refl; room = omega arith }, roomier_same es)
 
 -- where each group has a row, none is dropped
-pub all_used : (es : List (Key × Group)) → HaveRows es → filter is_used es ≡ es
+pub all_used : (es : List (Key × Group)) → HaveRows es → filter has_rows es ≡ es
 all_used [] a = refl
 all_used (e ∷ es) a = rw (not_empty (is_empty e.1.tree) a.0) (ap (λ (all : List (Key × Group)). e ∷ all) (all_used es a.1)) where
   not_empty : (b : Bool) → b ≡ false → not b ≡ true
   not_empty b h = rw h refl
 
 -- those that are left each have a row
-pub used_left : (es : List (Key × Group)) → HaveRows (filter is_used es)
+pub used_left : (es : List (Key × Group)) → HaveRows (filter has_rows es)
 used_left [] = tt
 used_left (e ∷ es) =
-    elim (is_empty e.1.tree) as (λ b. is_empty e.1.tree ≡ b → HaveRows (cond (not b) (e ∷ filter is_used es) (filter is_used es))) [
+    elim (is_empty e.1.tree) as (λ b. is_empty e.1.tree ≡ b → HaveRows (cond (not b) (e ∷ filter has_rows es) (filter has_rows es))) [
       | true ↦ λ h. used_left es
       | false ↦ λ h. (h, used_left es)
     ] refl
 
-pub room_left : (es : List (Key × Group)) → HaveRoom es → HaveRoom (filter is_used es)
+pub room_left : (es : List (Key × Group)) → HaveRoom es → HaveRoom (filter has_rows es)
 room_left es a = each_used (λ _ group. 0 < group.moves.room) es a

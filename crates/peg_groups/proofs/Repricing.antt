@@ -17,7 +17,7 @@ use Rattle.move_history.specs.Staircase.{Staircase, last_change}
 use Rattle.peg_groups.specs.Side.{Standing, IsLaterThan}
 use Rattle.venue_words.specs.Rows.{IsAbsent, insert_by_entry}
 use Rattle.peg_groups.specs.Group.{priced_in, value_from}
-use Rattle.peg_groups.specs.Groups.{merged, rows_of, EachGroup, IsRowOf, IsGroup, AreGroups, IsGroupSide, GroupsView, groups_state, HasMoves, HasGroup, HaveRoom, FitsGroup, IsMoved, IsRoomier, PairedBy, IsFresh, HasNew, ReservesGroups, is_used}
+use Rattle.peg_groups.specs.Groups.{merged, rows_of, EachGroup, IsRowOf, IsGroup, AreGroups, IsGroupSide, GroupsView, groups_state, HasMoves, HasGroup, HaveRoom, FitsGroup, IsMoved, IsRoomier, PairedBy, IsFresh, HasNew, ReservesGroups, has_rows}
 use Rattle.peg_groups.specs.declared.group.Group.{Group}
 use Rattle.peg_groups.specs.Merge.{map-insert}
 use Rattle.peg_groups.proofs.Merged.{each_merged, merged_each, apart_kept}
@@ -291,32 +291,32 @@ no_rows_left : (rows : List Row) → is_empty rows ≡ true → rows ≡ []
 no_rows_left [] h = refl
 no_rows_left (row ∷ rows) h = cc
 
-pub rows_used : (es : List (Key × Group)) → rows_of (filter is_used es) ≡ rows_of es
+pub rows_used : (es : List (Key × Group)) → rows_of (filter has_rows es) ≡ rows_of es
 rows_used [] = refl
 rows_used (e ∷ es) =
-    elim (is_empty e.1.tree) as (λ b. is_empty e.1.tree ≡ b → rows_of (cond (not b) (e ∷ filter is_used es) (filter is_used es)) ≡ rows_of (e ∷ es)) [
+    elim (is_empty e.1.tree) as (λ b. is_empty e.1.tree ≡ b → rows_of (cond (not b) (e ∷ filter has_rows es) (filter has_rows es)) ≡ rows_of (e ∷ es)) [
       | true ↦ λ h. rows_used es ∙ rw (no_rows_left e.1.tree h) refl
       | false ↦ λ h. ap (λ (all : List Priced). merged e.1.moves e.1.tree all) (rows_used es)
     ] refl
 
-pub each_used : (P : Key → Group → Type 0) (es : List (Key × Group)) → EachGroup P es → EachGroup P (filter is_used es)
+pub each_used : (P : Key → Group → Type 0) (es : List (Key × Group)) → EachGroup P es → EachGroup P (filter has_rows es)
 each_used P [] a = tt
 each_used P (e ∷ es) a =
-    elim (is_used e) as (λ b. EachGroup P (cond b (e ∷ filter is_used es) (filter is_used es))) [ true ↦ (a.0, each_used P es a.1) | false ↦ each_used P es a.1 ]
+    elim (has_rows e) as (λ b. EachGroup P (cond b (e ∷ filter has_rows es) (filter has_rows es))) [ true ↦ (a.0, each_used P es a.1) | false ↦ each_used P es a.1 ]
 
-pub groups_used : (best : Best) (event : ℕ) (es : List (Key × Group)) → AreGroups best event es → AreGroups best event (filter is_used es)
+pub groups_used : (best : Best) (event : ℕ) (es : List (Key × Group)) → AreGroups best event es → AreGroups best event (filter has_rows es)
 groups_used best event [] a = tt
 groups_used best event (e ∷ es) a =
-    elim (is_used e) as (λ b. AreGroups best event (cond b (e ∷ filter is_used es) (filter is_used es))) [
+    elim (has_rows e) as (λ b. AreGroups best event (cond b (e ∷ filter has_rows es) (filter has_rows es))) [
       | true ↦ (a.0, rw (rows_used es) a.1, each_used (λ k _. k ≡ e.0 → ⊥) es a.2, groups_used best event es a.3)
       | false ↦ groups_used best event es a.3
     ]
 
-pub length_used : (es : List (Key × Group)) → length (filter is_used es) ≤ length es
+pub length_used : (es : List (Key × Group)) → length (filter has_rows es) ≤ length es
 length_used [] = omega arith
 length_used (e ∷ es) =
-    let h : length (filter is_used es) ≤ length es = length_used es in
-    elim (is_used e) as (λ b. length (cond b (e ∷ filter is_used es) (filter is_used es)) ≤ suc (length es)) [ true ↦ omega arith | false ↦ omega arith ]
+    let h : length (filter has_rows es) ≤ length es = length_used es in
+    elim (has_rows e) as (λ b. length (cond b (e ∷ filter has_rows es) (filter has_rows es)) ≤ suc (length es)) [ true ↦ omega arith | false ↦ omega arith ]
 
 pub any_ok : {T E P : Type 0} (r : Rattle.std.specs.declared.result.Result.Result T E) → P → Rattle.std.specs.Result.OnOk r P
 any_ok (Ok v) p = p

@@ -3,7 +3,7 @@ use Rattle.std.proofs.Common.{◌≡◌, ℕ, zero, suc, ◌<◌, ◌≤◌, min
 use Rattle.std.proofs.lemmas.Bool.{ne_eqb}
 use Rattle.indexmap.specs.IndexMap.{set_value_at}
 use Rattle.venue_words.specs.Peg.{row_value, peg_value, value_under}
-use Rattle.peg_groups.specs.Side.{entered, IsLaterThan, IsPlaced, IsHeldAt, NoneAt, standing_of}
+use Rattle.peg_groups.specs.Side.{priced_at, IsLaterThan, IsRowAt, IsHeldAt, NoneAt, standing_of}
 use Rattle.venue_words.specs.Priority.{is_ahead_if_active}
 use Rattle.venue_words.specs.declared.price.Best.{Best}
 use Rattle.venue_words.specs.declared.row.Key.{Key}
@@ -64,7 +64,7 @@ pub entries_before : (entries : List (Key × Group)) (n : ℕ) → AllByRecursio
 entries_before entries n a = all_both {A = Priced} (λ p. p.time < n) (λ p. p.row.entry ≤ p.time) (λ p. p.row.entry < n) (λ p x y. omega arith) (rows_of entries) a (early_rows entries)
 
 -- a row that enters is priced as the quote says, with its entry as time
-entered_is : (best : Best) (event : ℕ) (key : Key) (group : Group) (row : Row) → IsGroup best event key group → row.key ≡ key → event < row.entry → priced_in group.moves row ≡ entered best row
+entered_is : (best : Best) (event : ℕ) (key : Key) (group : Group) (row : Row) → IsGroup best event key group → row.key ≡ key → event < row.entry → priced_in group.moves row ≡ priced_at best row
 unfolding value_under
 entered_is best event key group row g same later =
     let value : row_value (value_from group.moves.current) row.cap ≡ row_value (peg_value row.key best) row.cap = ap (λ (o : Option ℕ). row_value o row.cap) (ap value_from g.current ∙ peg_number key best ∙ ap (λ (k : Key). peg_value k best) (sym same)) in
@@ -79,9 +79,9 @@ side_enters side key row p new s e absent is f =
       put ∙ ap (λ (q : Priced). insert_by_entry q (rows_of side.entries)) (f e.group (has_found key side.entries e.i e.group e.at) (group_in side.best side.event side.entries e.i key e.group s.groups e.at)),
     )
 
-pub side_put : (side : GroupsView) (row : Row) (new : List (Key × Group)) → IsGroupSide side → EntersGroup row.key row side.entries new → IsLaterThan (groups_state side) row.entry → 1 ≤ row.cap → row.entry < 2 ^ 32 → IsGroupSide (record { entries = new; best = side.best; event = side.event }) × (rows_of new ≡ insert_by_entry (entered side.best row) (rows_of side.entries))
+pub side_put : (side : GroupsView) (row : Row) (new : List (Key × Group)) → IsGroupSide side → EntersGroup row.key row side.entries new → IsLaterThan (groups_state side) row.entry → 1 ≤ row.cap → row.entry < 2 ^ 32 → IsGroupSide (record { entries = new; best = side.best; event = side.event }) × (rows_of new ≡ insert_by_entry (priced_at side.best row) (rows_of side.entries))
 side_put side row new s e later least small =
-    side_enters side row.key row (entered side.best row) new s e (absent_later side.entries row.entry later.times) (record { key_is = refl; least = least; small = small }) (λ group has g. entered_is side.best side.event row.key group row g refl later.pricing)
+    side_enters side row.key row (priced_at side.best row) new s e (absent_later side.entries row.entry later.times) (record { key_is = refl; least = least; small = small }) (λ group has g. entered_is side.best side.event row.key group row g refl later.pricing)
 
 back_is : (entries : List (Key × Group)) (p : Priced) (group : Group) (best : Best) (event : ℕ) → FitsGroup entries (standing_of p) → ((m : Staircase) → HasMoves p.row.key m entries → group.moves ≡ m) → priced_in group.moves p.row ≡ p
 back_is entries p group best event f only =
@@ -105,7 +105,7 @@ side_leaves side key cap entry row new s e =
 
 pub record IsPricedBy (side : GroupsView) (key : Key) (cap entry : ℕ) (row : Row) (m : Staircase) : Type 0 where
   pub held : row_by_entry entry (rows_of side.entries) ≡ Some (priced_in m row)
-  pub placed : IsPlaced key cap entry (priced_in m row)
+  pub placed : IsRowAt key cap entry (priced_in m row)
   pub least : 1 ≤ row.cap
 
 pub leaving_row : (side : GroupsView) (key : Key) (cap entry : ℕ) (row : Row) (i : ℕ) (group : Group) → IsGroupSide side → slice_get side.entries i ≡ Some (key, group) → row_at cap entry group.tree ≡ Some row → IsPricedBy side key cap entry row group.moves
@@ -141,12 +141,12 @@ no_placed : (best : Best) (event : ℕ) (key : Key) (cap entry : ℕ) (entries :
 no_placed best event key cap entry [] i group a h n = tt
 no_placed best event key cap entry (e ∷ es) zero group a h n =
     let t = there e h in
-    each_merged (λ p. IsPlaced key cap entry p → ⊥) e.1.moves e.1.tree (rows_of es)
-    (all_weaken {A = Row} (λ row. row.cap ≡ cap → row.entry ≡ entry → ⊥) (λ row. IsPlaced key cap entry (priced_in e.1.moves row) → ⊥) (λ row f x. f x.cap_is x.entry_is) e.1.tree (no_row_at cap entry e.1.tree (rw (← t.group_is) at n)))
-    (all_weaken {A = Priced} (λ p. p.row.key ≡ key → ⊥) (λ p. IsPlaced key cap entry p → ⊥) (λ p f x. f x.key_is) (rows_of es) (other_keys best event key es a.3 (groups_map (λ k _. k ≡ e.0 → ⊥) (λ k _. k ≡ key → ⊥) (λ k g f x. f (x ∙ sym t.key_is)) es a.2)))
+    each_merged (λ p. IsRowAt key cap entry p → ⊥) e.1.moves e.1.tree (rows_of es)
+    (all_weaken {A = Row} (λ row. row.cap ≡ cap → row.entry ≡ entry → ⊥) (λ row. IsRowAt key cap entry (priced_in e.1.moves row) → ⊥) (λ row f x. f x.cap_is x.entry_is) e.1.tree (no_row_at cap entry e.1.tree (rw (← t.group_is) at n)))
+    (all_weaken {A = Priced} (λ p. p.row.key ≡ key → ⊥) (λ p. IsRowAt key cap entry p → ⊥) (λ p f x. f x.key_is) (rows_of es) (other_keys best event key es a.3 (groups_map (λ k _. k ≡ e.0 → ⊥) (λ k _. k ≡ key → ⊥) (λ k g f x. f (x ∙ sym t.key_is)) es a.2)))
 no_placed best event key cap entry (e ∷ es) (suc i) group a h n =
-    each_merged (λ p. IsPlaced key cap entry p → ⊥) e.1.moves e.1.tree (rows_of es)
-    (all_weaken {A = Row} (IsRowOf e.0) (λ row. IsPlaced key cap entry (priced_in e.1.moves row) → ⊥) (λ row r x. differs (sym r.key_is ∙ x.key_is)) e.1.tree a.0.rows)
+    each_merged (λ p. IsRowAt key cap entry p → ⊥) e.1.moves e.1.tree (rows_of es)
+    (all_weaken {A = Row} (IsRowOf e.0) (λ row. IsRowAt key cap entry (priced_in e.1.moves row) → ⊥) (λ row r x. differs (sym r.key_is ∙ x.key_is)) e.1.tree a.0.rows)
     (no_placed best event key cap entry es i group a.3 h n) where
       at_differs : (x : Key) (others : List (Key × Group)) (j : ℕ) → EachGroup (λ k _. k ≡ x → ⊥) others → slice_get others j ≡ Some (key, group) → x ≡ key → ⊥
       at_differs x [] j f k y = cc
@@ -157,7 +157,7 @@ no_placed best event key cap entry (e ∷ es) (suc i) group a h n =
       differs y = at_differs e.0 es i a.2 h y
 
 pub none_placed : (side : GroupsView) (key : Key) (cap entry : ℕ) → IsGroupSide side → NoneIn key cap entry side.entries → NoneAt key cap entry (rows_of side.entries)
-none_placed side key cap entry s (inl f) = all_weaken {A = Priced} (λ p. p.row.key ≡ key → ⊥) (λ p. IsPlaced key cap entry p → ⊥) (λ p f x. f x.key_is) (rows_of side.entries) (other_keys side.best side.event key side.entries s.groups f)
+none_placed side key cap entry s (inl f) = all_weaken {A = Priced} (λ p. p.row.key ≡ key → ⊥) (λ p. IsRowAt key cap entry p → ⊥) (λ p f x. f x.key_is) (rows_of side.entries) (other_keys side.best side.event key side.entries s.groups f)
 none_placed side key cap entry s (inr n) = no_placed side.best side.event key cap entry side.entries n.0 n.1 s.groups n.2 n.3
 
 -- the value and time of a held row

@@ -160,8 +160,8 @@ abbrev pub BestUpTo : List (Key × Group) → ℕ → Option (ℕ × Candidate) 
 BestUpTo entries n found = MatchOption found (EachUpTo NoneActiveIn n entries) (λ best. IsBestUpTo entries n best.0 best.1)
 
 -- whether the group has a row
-abbrev pub is_used : Key × Group → Bool
-is_used item = not (is_empty item.1.tree)
+abbrev pub has_rows : Key × Group → Bool
+has_rows item = not (is_empty item.1.tree)
 
 -- the candidate is a held row of the group before which none of its rows goes, or no row is active
 abbrev pub BestIn : Group → Option Candidate → Type 0

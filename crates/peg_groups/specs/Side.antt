@@ -20,8 +20,8 @@ abbrev pub first_state : SideState
 first_state = record { rows = []; best = record { bid = None; offer = None }; event = 0 }
 
 -- a row that enters at a quote, with its entry as time
-abbrev pub entered : Best → Row → Priced
-entered best row = record { row = row; value = value_under best row; time = row.entry }
+abbrev pub priced_at : Best → Row → Priced
+priced_at best row = record { row = row; value = value_under best row; time = row.entry }
 
 -- the row that was taken out, with the value and the time that it has
 abbrev pub taken_row : Taken → Priced
@@ -44,7 +44,7 @@ pub record IsLaterThan (side : SideState) (event : ℕ) : Type 0 where
   pub times : AllByRecursion (λ row. row.time < event) side.rows
 
 -- the row has this key, cap and entry
-pub record IsPlaced (key : Key) (cap entry : ℕ) (row : Priced) : Type 0 where
+pub record IsRowAt (key : Key) (cap entry : ℕ) (row : Priced) : Type 0 where
   pub key_is : row.row.key ≡ key
   pub cap_is : row.row.cap ≡ cap
   pub entry_is : row.row.entry ≡ entry
@@ -52,11 +52,11 @@ pub record IsPlaced (key : Key) (cap entry : ℕ) (row : Priced) : Type 0 where
 -- the held row of this key, cap and entry
 pub record IsHeldAt (key : Key) (cap entry : ℕ) (rows : List Priced) (row : Priced) : Type 0 where
   pub held : row_by_entry entry rows ≡ Some row
-  pub placed : IsPlaced key cap entry row
+  pub placed : IsRowAt key cap entry row
 
 -- no row has this key, cap and entry
 abbrev pub NoneAt : Key → ℕ → ℕ → List Priced → Type 0
-NoneAt key cap entry rows = AllByRecursion (λ row. IsPlaced key cap entry row → ⊥) rows
+NoneAt key cap entry rows = AllByRecursion (λ row. IsRowAt key cap entry row → ⊥) rows
 
 -- the state without the row of an entry
 abbrev pub without : ℕ → SideState → SideState

@@ -8,7 +8,7 @@ ghost use Rattle.peg_groups.specs.Groups.{BestIn, TakesFirst, NoneActiveIn, IsBe
 ghost use Rattle.peg_groups.specs.declared.group.Candidate.{Candidate};
 ghost use Rattle.peg_groups.specs.declared.group.Group.{Group};
 
-use crate::group::{Candidate, Group, best_of};
+use crate::group::{Candidate, Group, candidate_of};
 use crate::groups::{cut_in, group_at};
 use crate::side_book::Taken;
 use indexmap::IndexMap;
@@ -86,7 +86,7 @@ pub fn look_at<L: Ledger>(
         steps.tick();
         return best;
     }
-    let new = best_of(group, steps);
+    let new = candidate_of(group, steps);
     better(groups, i, new, best)
 }
 

@@ -132,7 +132,7 @@ pub fn value_below(current: u32, cap: u32) -> Option<u32>
 }
 
 /// The first row of a group by priority, where it is active.
-pub fn best_of<L: Ledger>(group: &Group, steps: &mut Steps<L>) -> Option<Candidate>
+pub fn candidate_of<L: Ledger>(group: &Group, steps: &mut Steps<L>) -> Option<Candidate>
     ensures best { BestIn group.now result }
     ensures ticks { steps.old + 1 ≤ steps.new }
     ensures most { steps.new ≤ steps.old + 897 }

@@ -4,7 +4,7 @@ ghost use Rattle.indexmap.specs.IndexMap.{set_value_at, index_map_len};
 ghost use Rattle.limit_tree.specs.Order.{is_empty};
 ghost use Rattle.venue_words.specs.Conditions.{IsKey};
 ghost use Rattle.venue_words.specs.declared.row.Key.{Key};
-ghost use Rattle.peg_groups.specs.Groups.{HasNew, HasGroup, HaveRoom, IsRoomier, PairedBy, is_used};
+ghost use Rattle.peg_groups.specs.Groups.{HasNew, HasGroup, HaveRoom, IsRoomier, PairedBy, has_rows};
 ghost use Rattle.peg_groups.specs.declared.group.Group.{Group};
 
 use crate::group::Group;
@@ -76,7 +76,7 @@ pub fn tick_each<L: Ledger>(count: usize, steps: &mut Steps<L>)
 
 /// Drops the groups without a row. Each group is a step of the counter.
 pub fn drop_empty<L: Ledger>(groups: &mut IndexMap<Key, Group>, steps: &mut Steps<L>)
-    ensures entries { groups.new.entries ≡ filter is_used groups.old.entries }
+    ensures entries { groups.new.entries ≡ filter has_rows groups.old.entries }
     ensures ticks { steps.new ≡ steps.old + length groups.old.entries }
 {
     tick_each(groups.len(), steps);
@@ -89,7 +89,7 @@ pub fn drop_empty<L: Ledger>(groups: &mut IndexMap<Key, Group>, steps: &mut Step
 
 /// How many groups have a row.
 pub fn used_groups(groups: &IndexMap<Key, Group>) -> usize
-    ensures { result ≡ length (filter is_used groups.now.entries) }
+    ensures { result ≡ length (filter has_rows groups.now.entries) }
 {
     let mut count = 0;
     for i in 0..groups.len() {

@@ -10,7 +10,7 @@ ghost use Rattle.venue_words.specs.declared.row.Key.{Key};
 ghost use Rattle.venue_words.specs.declared.row.Priced.{Priced};
 ghost use Rattle.peg_groups.specs.BestValue.{best_value};
 ghost use Rattle.peg_groups.specs.KeyCount.{key_count};
-ghost use Rattle.peg_groups.specs.Side.{SideState, Standing, IsLaterThan, IsCut, IsHeldAt, NoneAt, entered, standing_of, taken_row, with_row, without};
+ghost use Rattle.peg_groups.specs.Side.{SideState, Standing, IsLaterThan, IsCut, IsHeldAt, NoneAt, priced_at, standing_of, taken_row, with_row, without};
 
 use limit_tree::Node;
 use std::sync::ledger::Ledger;
@@ -83,7 +83,7 @@ pub trait SideBook {
         requires room { row_room self.old node.value.row.key }
         requires later { IsLaterThan (state self.old) node.value.row.entry }
 
-        ensures state { state self.new ≡ with_row (entered (state self.old).best node.value.row) (state self.old) }
+        ensures state { state self.new ≡ with_row (priced_at (state self.old).best node.value.row) (state self.old) }
         ensures fits { (standing : Standing) → fits self.old standing → fits self.new standing }
         ensures moves { move_room self.old → move_room self.new }
         ensures width { width self.new ≡ width self.old }

@@ -27,7 +27,7 @@ use Rattle.replay_core.specs.Pulling.{pulled, lines_of_pulls}
 use Rattle.replay_core.specs.Recording.{Recorded, recorded, has_room, next_event}
 use Rattle.replay_core.proofs.LineByLine.{worked_line}
 use Rattle.replay_core.proofs.LoadFrames.{IsWhole, whole_none, whole_on, AtMostOne, few_given, none_given}
-use Rattle.replay_core.proofs.LoadTexts.{IsMessage, IsQuote, load_config, begins_at, frame_in, message_framed, message_read, message_short, logon_line, logon_message, first_quote, each_quote, order_message, last_message, header_one, header_two, header_three, header_four, version_read, member_read, market_read, symbol_read, begin_read}
+use Rattle.replay_core.proofs.LoadTexts.{IsMessage, IsQuoteLine, load_config, begins_at, frame_in, message_framed, message_read, message_short, logon_line, logon_message, first_quote, each_quote, order_message, last_message, header_one, header_two, header_three, header_four, version_read, member_read, market_read, symbol_read, begin_read}
 
 -- ---- a line that is taken
 
@@ -222,7 +222,7 @@ logon_on limit place x new early =
     leads_on limit 0 0 place logon_line x early (message_worked limit 0 0 place logon_line m x
     (subst (λ (s : List Submission). FindRoom limit 0 x.moment s x.journal) (sym none) (find_none limit 0 x.moment x.journal x.few)))
 
-quote_on : (limit count : ℕ) (place : Place) (line : List ℕ) → IsQuote limit begins_at line → InBody limit count place → count < limit
+quote_on : (limit count : ℕ) (place : Place) (line : List ℕ) → IsQuoteLine limit begins_at line → InBody limit count place → count < limit
     → place.lines ≤ 500000 → LeadsOn limit (count + 1) place line
 unfolding work_of_text
 quote_on limit count place line q x room early =

@@ -300,18 +300,18 @@ unfolding read_of line_of keyed_body quote_in price_of cents_of has_form digits_
 high_read limit begin = refl
 
 -- a line that quotes
-pub record IsQuote (limit : ℕ) (begin : ℤ) (line : List ℕ) : Type 0 where
+pub record IsQuoteLine (limit : ℕ) (begin : ℤ) (line : List ℕ) : Type 0 where
   pub command : Command
   pub read : read_of (load_config limit begin) line ≡ Ok (Quote 0 command)
   pub short : length line ≤ 1000
 
-pub first_quote : (limit : ℕ) (begin : ℤ) → IsQuote limit begin (codes "Q L M 10.00 10.02")
+pub first_quote : (limit : ℕ) (begin : ℤ) → IsQuoteLine limit begin (codes "Q L M 10.00 10.02")
 first_quote limit begin = record { command = low; read = low_read limit begin; short = omega arith }
 
-pub each_quote : (limit : ℕ) (begin : ℤ) (k : ℕ) → IsQuote limit begin (quote_line k)
+pub each_quote : (limit : ℕ) (begin : ℤ) (k : ℕ) → IsQuoteLine limit begin (quote_line k)
 unfolding quote_line
 each_quote limit begin k =
-    elim (k % 2 == 1) as (λ b. IsQuote limit begin (cond b (codes "Q L M 10.01 10.03") (codes "Q L M 10.00 10.02"))) [
+    elim (k % 2 == 1) as (λ b. IsQuoteLine limit begin (cond b (codes "Q L M 10.01 10.03") (codes "Q L M 10.00 10.02"))) [
       | true ↦ record { command = high; read = high_read limit begin; short = omega arith }
       | false ↦ first_quote limit begin
     ]

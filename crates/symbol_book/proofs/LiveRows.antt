@@ -8,7 +8,7 @@ use Rattle.eager_meaning.specs.declared.order.Order.{Order}
 use Rattle.eager_meaning.specs.Orders.{order_named, live_named}
 use Rattle.eager_meaning.specs.Showing.{row_of_order}
 use Rattle.market_laws.specs.Standing.{row_by_now, row_left}
-use Rattle.symbol_book.specs.Finding.{IsNumber, IsLiveRow, IsFoundAs, IsFound}
+use Rattle.symbol_book.specs.Finding.{IsNumber, IsRowIfLive, IsFoundAs, IsFound}
 use Rattle.symbol_book.specs.Rows.{AreEntered}
 
 same_number : (a b : ℕ) → (a == b) ≡ true → a ≡ b
@@ -75,7 +75,7 @@ none_there number rows e =
 
 -- the row of a live order rests
 pub live_rests : (number : ℕ) (row : Row) (order : Order) (entered : List (Option Row)) (orders : List Order) (rows : List Priced) → AreEntered entered orders rows
-    → slice_get orders number ≡ Some order → IsLiveRow orders entered number (Some row)
+    → slice_get orders number ≡ Some order → IsRowIfLive orders entered number (Some row)
     → (x : Priced) × (row_of_order number rows ≡ Some x) × IsFoundAs orders rows (record { number = number; order = order; row = x }) (record { number = number; row = row })
 live_rests number row order entered orders rows are at live =
     elim (less_or_not order.cum order.quantity) [
@@ -110,7 +110,7 @@ live_rests number row order entered orders rows are at live =
 
 -- an order that is not live has none
 pub none_rests : (number : ℕ) (order : Order) (entered : List (Option Row)) (orders : List Order) (rows : List Priced) → AreEntered entered orders rows
-    → slice_get orders number ≡ Some order → IsLiveRow orders entered number None → row_of_order number rows ≡ None
+    → slice_get orders number ≡ Some order → IsRowIfLive orders entered number None → row_of_order number rows ≡ None
 none_rests number order entered orders rows are at live =
     elim (less_or_not order.cum order.quantity) [
       | inl more ↦
@@ -127,14 +127,14 @@ none_rests number order entered orders rows are at live =
 
 -- what is found of a live order that an id names
 pub found_live : (member : ℕ) (id : List ℕ) (entered : List (Option Row)) (orders : List Order) (rows : List Priced) (number : ℕ) (row : Row) → AreEntered entered orders rows
-    → IsNumber member id orders (order_named member id orders) (Some number) → IsLiveRow orders entered number (Some row) → IsFound orders rows (live_named member id orders rows) (Some (record { number = number; row = row }))
+    → IsNumber member id orders (order_named member id orders) (Some number) → IsRowIfLive orders entered number (Some row) → IsFound orders rows (live_named member id orders rows) (Some (record { number = number; row = row }))
 unfolding live_named
 found_live member id entered orders rows number row are named live =
     let r = live_rests number row named.order entered orders rows are named.at live in
     (record { number = number; order = named.order; row = r.0 }, rw (named.is, r.1) refl, r.2)
 
 pub none_found : (member : ℕ) (id : List ℕ) (entered : List (Option Row)) (orders : List Order) (rows : List Priced) (number : ℕ) → AreEntered entered orders rows
-    → IsNumber member id orders (order_named member id orders) (Some number) → IsLiveRow orders entered number None → live_named member id orders rows ≡ None
+    → IsNumber member id orders (order_named member id orders) (Some number) → IsRowIfLive orders entered number None → live_named member id orders rows ≡ None
 unfolding live_named
 none_found member id entered orders rows number are named live =
     rw (named.is, none_rests number named.order entered orders rows are named.at live) refl

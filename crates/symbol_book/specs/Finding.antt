@@ -22,7 +22,7 @@ IsNumber member id orders named None = named ≡ None
 IsNumber member id orders named (Some number) = IsNumberOf member id orders named number
 
 -- the row with which the order with this number entered, or none where it has no shares left or may not rest
-pub record IsLiveRow (orders : List Order) (entered : List (Option Row)) (number : ℕ) (row : Option Row) : Type 0 where
+pub record IsRowIfLive (orders : List Order) (entered : List (Option Row)) (number : ℕ) (row : Option Row) : Type 0 where
   pub live : (order : Order) → slice_get orders number ≡ Some order → order.cum < order.quantity
       → slice_get entered number ≡ Some row
   pub filled : (order : Order) → slice_get orders number ≡ Some order → order.quantity ≤ order.cum → row ≡ None

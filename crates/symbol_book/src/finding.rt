@@ -2,7 +2,7 @@
 ghost use Rattle.std.specs.Prelude.{◌≡◌, ◌<◌, IfSome, List, length, option_map, Some};
 ghost use Rattle.venue_words.specs.declared.row.Priced.{Priced};
 ghost use Rattle.eager_meaning.specs.Orders.{is_named, order_named, live_named};
-ghost use Rattle.symbol_book.specs.Finding.{IsNumber, IsLiveRow, IsFound};
+ghost use Rattle.symbol_book.specs.Finding.{IsNumber, IsRowIfLive, IsFound};
 ghost use Rattle.symbol_book.specs.Ids.{NameOrders, named_at};
 ghost use Rattle.symbol_book.specs.Rows.{AreEntered};
 
@@ -58,7 +58,7 @@ pub fn number_of(ids: &UsedIds, orders: &[Order], id: &ClOrdId) -> Option<u32>
 pub fn live_row(orders: &[Order], entered: &[Option<Row>], number: u32) -> Option<Row>
     requires here { number < length orders.now }
     requires count { length entered.now ≡ length orders.now }
-    ensures { IsLiveRow orders.now entered.now number result }
+    ensures { IsRowIfLive orders.now entered.now number result }
 {
     let order = &orders[number as usize];
     if order.cum < order.quantity {

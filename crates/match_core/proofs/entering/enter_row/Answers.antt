@@ -1,6 +1,6 @@
 use Rattle.std.proofs.Common.{◌≡◌, length, ap, ◌∙◌}
 use Rattle.venue_words.specs.declared.price.Best.{Best}
-use Rattle.match_core.specs.BothSides.{priced_at}
+use Rattle.peg_groups.specs.Side.{priced_at}
 use Rattle.match_core.proofs.Enters.{own_with, own_entered, others_entered, fills_entered, few_entered}
 use Rattle.match_core.proofs.entering.enter_row.Given.{Over}
 use Rattle.match_core.proofs.entering.enter_row.Goals as goal

@@ -1,8 +1,7 @@
 use Rattle.std.proofs.Common.{ap, ◌∙◌}
 use Rattle.venue_words.specs.declared.row.Row.{Row}
 use Rattle.venue_words.specs.Rows.{insert_by_entry}
-use Rattle.peg_groups.specs.Side.{SideState}
-use Rattle.match_core.specs.BothSides.{priced_at}
+use Rattle.peg_groups.specs.Side.{SideState, priced_at}
 use Rattle.match_core.proofs.Changes.{left_none, left_some}
 use Rattle.match_core.proofs.entering.put_left.Goals as goal
 

@@ -4,7 +4,7 @@ use Rattle.venue_words.specs.declared.row.Priced.{Priced}
 use Rattle.venue_words.specs.Price.{price_shown}
 use Rattle.eager_meaning.specs.declared.order.Order.{Order}
 use Rattle.eager_meaning.specs.Showing.{live_at, view_with, row_of_order}
-use Rattle.symbol_book.specs.Finding.{IsLiveRow}
+use Rattle.symbol_book.specs.Finding.{IsRowIfLive}
 use Rattle.symbol_book.proofs.LiveRows.{get_at, live_rests, none_rests}
 use Rattle.symbol_book.proofs.status.view_now.Goals as goal
 
@@ -18,7 +18,7 @@ pub priced-price-requires : goal.priced-price-requires
 priced-price-requires g c =
     let at = get_at c.args.orders.now c.args.number c.index-orders-number.result c.requires.here c.index-orders-number.is in
     let r = live_rests c.args.number c.in-Some.row c.index-orders-number.result c.args.entered.now c.args.orders.now _ c.requires.kept at
-    (subst (IsLiveRow c.args.orders.now c.args.entered.now c.args.number) c.in-Some.is c.live_row.ensures) in
+    (subst (IsRowIfLive c.args.orders.now c.args.entered.now c.args.number) c.in-Some.is c.live_row.ensures) in
     record { rests = r.2.rests }
 
 pub view_at-requires : goal.view_at-requires
@@ -29,7 +29,7 @@ pub returns-in-Some-clause-view : goal.returns-in-Some-clause-view
 returns-in-Some-clause-view g c = λ order at.
     let here = get_at c.args.orders.now c.args.number c.index-orders-number.result c.requires.here c.index-orders-number.is in
     let r = live_rests c.args.number c.in-Some.row c.index-orders-number.result c.args.entered.now c.args.orders.now _ c.requires.kept here
-    (subst (IsLiveRow c.args.orders.now c.args.entered.now c.args.number) c.in-Some.is c.live_row.ensures) in
+    (subst (IsRowIfLive c.args.orders.now c.args.entered.now c.args.number) c.in-Some.is c.live_row.ensures) in
     let same : c.index-orders-number.result ≡ order = some_order _ _ (sym here ∙ at) in
     let shown : (price_shown r.0, r.0.time) ≡ c.priced-price.result =
     some_pair _ _ (sym (ap (λ (o : Option Priced). option_map (λ (x : Priced). (price_shown x, x.time)) o) r.1) ∙ (ap (λ (k : ℕ). option_map (λ (x : Priced). (price_shown x, x.time)) (row_of_order k (g.E.Engine.buys c.args.engine.now ++ g.E.Engine.sells c.args.engine.now))) (sym r.2.order) ∙ c.priced-price.ensures.shown)) in
@@ -41,5 +41,5 @@ returns-in-None-clause-view g c = λ order at.
     let here = get_at c.args.orders.now c.args.number c.index-orders-number.result c.requires.here c.index-orders-number.is in
     let same : c.index-orders-number.result ≡ order = some_order _ _ (sym here ∙ at) in
     let none = none_rests c.args.number c.index-orders-number.result c.args.entered.now c.args.orders.now (g.E.Engine.buys c.args.engine.now ++ g.E.Engine.sells c.args.engine.now) c.requires.kept here
-    (subst (IsLiveRow c.args.orders.now c.args.entered.now c.args.number) c.in-None.is c.live_row.ensures) in
+    (subst (IsRowIfLive c.args.orders.now c.args.entered.now c.args.number) c.in-None.is c.live_row.ensures) in
     rw (none, ← same) (c.view_closed.ensures.own (c.requires.name c.index-orders-number.result here))

@@ -2,7 +2,7 @@ use Rattle.std.proofs.Common.{◌≡◌, ap, ◌∙◌, List, length, arith, ◌
 use Rattle.peg_groups.proofs.Counting.{few_in_groups, length_insert}
 use Rattle.venue_words.specs.declared.row.Row.{Row}
 use Rattle.venue_words.specs.declared.row.Priced.{Priced}
-use Rattle.peg_groups.specs.Side.{entered}
+use Rattle.peg_groups.specs.Side.{priced_at}
 use Rattle.peg_groups.specs.Groups.{rows_of}
 use Rattle.peg_groups.proofs.NoPass.{rows_enter}
 use Rattle.peg_groups.proofs.SideSteps.{absent_later, side_put, keeps_enter}
@@ -19,7 +19,7 @@ invariant_of-self g c =
     let row : c.behind-node.inside.row ≡ c.args.node.value.row = ap (λ p. p.row) (c.behind-node.view_is ∙ c.deref.ensures) in
     let small : c.args.node.value.row.entry < 2 ^ 32 = omega (arith, c.behind-node.invariant.entry, ap (λ (r : Row). r.entry) row) in
     let r = side_put (record { entries = c.self.inside.groups.entries; best = c.self.inside.best; event = c.self.inside.event }) c.args.node.value.row c.enter.new.groups.entries c.self.invariant.is (rw row at c.enter.ensures.entered) (rw (← c.self.view_is) at c.requires.later) c.requires.row.least small in
-    record { is = r.0; len_is = omega (arith, ap length r.1, length_insert (entered c.self.inside.best c.args.node.value.row) (rows_of c.self.inside.groups.entries), c.self.invariant.len_is); used = λ h. rows_enter _ _ _ _ c.enter.ensures.entered (c.self.invariant.used h); roomy = λ h. (keeps_enter _ _ _ _ c.enter.ensures.entered).room (c.self.invariant.roomy h) }
+    record { is = r.0; len_is = omega (arith, ap length r.1, length_insert (priced_at c.self.inside.best c.args.node.value.row) (rows_of c.self.inside.groups.entries), c.self.invariant.len_is); used = λ h. rows_enter _ _ _ _ c.enter.ensures.entered (c.self.invariant.used h); roomy = λ h. (keeps_enter _ _ _ _ c.enter.ensures.entered).room (c.self.invariant.roomy h) }
 
 pub returns-clause-state : goal.returns-clause-state
 returns-clause-state g c =
