@@ -1,7 +1,5 @@
 //! What all trials share: a config, frames, and a run.
 mod failing;
-mod feeds;
-mod snapshots;
 
 use fix_write::wrap;
 use io_edge::{MemShelf, MemSink};

@@ -4,6 +4,7 @@
 #![tactic(auto)]
 
 mod frames;
+mod market;
 mod numbers;
 mod orders;
 mod reports;
@@ -11,26 +12,49 @@ mod sessions;
 mod writing;
 
 use case_text::{Told, expanded};
+use market::Recording;
 use script_text::unescape;
 use sessions::Desk;
 use std::alloc::Global;
 use std::io;
 use venue_words::NoMemory;
 
+/// What lasts from line to line.
+#[derive(Drop)]
+struct State {
+    desk: Desk,
+    recording: Recording,
+}
+
+impl State {
+    fn new(alloc: Global) -> Result<State, NoMemory> {
+        Ok(State {
+            desk: Desk::new(alloc)?,
+            recording: Recording::new(alloc, b"")?,
+        })
+    }
+}
+
 /// Tells what comes of a word and its input.
-fn play_word(desk: &mut Desk, word: &str, input: &[u8], told: &mut Told) -> Result<bool, NoMemory> {
+fn play_word(
+    state: &mut State,
+    word: &str,
+    input: &[u8],
+    told: &mut Told,
+) -> Result<bool, NoMemory> {
     Ok(
         numbers::play(word, input, told)
             || writing::play(word, input, told)?
             || frames::play(word, input, told)?
-            || sessions::play(desk, word, input, told)?
+            || sessions::play(&mut state.desk, word, input, told)?
             || orders::play(word, input, told)?
-            || reports::play(word, input, told)?,
+            || reports::play(word, input, told)?
+            || market::play(&mut state.recording, word, input, told)?,
     )
 }
 
 /// Tells what comes of a line.
-fn play(desk: &mut Desk, line: &str, told: &mut Told) -> Result<(), NoMemory> {
+fn play(state: &mut State, line: &str, told: &mut Told) -> Result<(), NoMemory> {
     if line.is_empty() || line.starts_with('#') {
         return Ok(());
     }
@@ -38,7 +62,7 @@ fn play(desk: &mut Desk, line: &str, told: &mut Told) -> Result<(), NoMemory> {
     let text = expanded(told.alloc, text.as_bytes())?;
     match unescape(told.alloc, text.as_slice())? {
         Some(input) => {
-            if !play_word(desk, word, input.as_slice(), told)? {
+            if !play_word(state, word, input.as_slice(), told)? {
                 told.word("no such word");
             }
         }
@@ -52,11 +76,11 @@ fn out_of_memory(_: NoMemory) -> io::Error {
 }
 
 fn main(rt: HostRuntime) -> io::Result<()> {
-    let mut desk = Desk::new(rt.alloc()).map_err(out_of_memory)?;
+    let mut state = State::new(rt.alloc()).map_err(out_of_memory)?;
     for line in rt.lines(rt.alloc()) {
         let line = line?;
         let mut told = Told::new(rt.alloc(), line.as_str())?;
-        play(&mut desk, line.as_str(), &mut told).map_err(out_of_memory)?;
+        play(&mut state, line.as_str(), &mut told).map_err(out_of_memory)?;
         if told.is_short {
             return Err(out_of_memory(NoMemory));
         }

@@ -1,22 +1,27 @@
 //! Orders as members write them, and the rules that they break.
+ghost use Rattle.std.specs.Prelude.{IfOk};
+ghost use Rattle.venue_words.specs.Conditions.{IsConfig};
+
 use crate::sessions::Desk;
 use case_text::{Told, Words};
 use exec_reports::{body, kind};
 use fix_write::wrap;
 use order_fields::{Decoded, Known, Refusal, read_order, verdict};
-use std::alloc::{AllocError, Global};
-use venue_words::{Bytes, Command, Config, Items, NoMemory, Report, Side};
+use script_text::read_header;
+use std::alloc::Global;
+use venue_words::{Command, Config, NoMemory, Report, Side};
 
-/// A config of member A, market N and symbol X.
-fn config_of(alloc: Global) -> Result<Config, AllocError> {
-    Ok(Config {
-        members: Items(vec![in alloc; Bytes::copy_of(alloc, b"A")?]?),
-        markets: Items(vec![in alloc; Bytes::copy_of(alloc, b"N")?]?),
-        symbols: Items(vec![in alloc; Bytes::copy_of(alloc, b"X")?]?),
-        limits: Items(vec![in alloc; 100]?),
-        ticks: Items(vec![in alloc; 2]?),
-        begin: 0,
-    })
+/// Member A, market N and symbol X.
+const CONFIG: &[u8] = b"PEGV 1\nMEMBER A\nMARKET N\nSYMBOL X 100\nBEGIN 19700101-00:00:00.000\n";
+
+/// The config of these.
+fn config_of(alloc: Global) -> Result<Config, NoMemory>
+    ensures { IfOk result IsConfig }
+{
+    match read_header(alloc, CONFIG) {
+        Ok((config, _)) => Ok(config),
+        Err(_) => Err(NoMemory),
+    }
 }
 
 /// What a message of member A behind its Logon is read as, at the moment 7.
