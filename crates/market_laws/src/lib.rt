@@ -1,5 +1,6 @@
 //! Laws of the market's rules: what holds of the reports and of the book after every history. Each law is a statement of
-//! `specs/`, proved as the contract of a function that does nothing.
+//! `specs/`, proved as the contract of a function that does nothing. A law that no crate calls is for those who rely on the rules: members,
+//! operators and auditors.
 #![tactic(auto)]
 
 mod histories;

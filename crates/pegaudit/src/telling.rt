@@ -1,4 +1,7 @@
 //! What is told of an audit.
+ghost use Rattle.std.specs.Prelude.{◌≡◌};
+ghost use Rattle.pegaudit.specs.Exits.{exit_code};
+
 use audit_core::{AuditFault, AuditFiles, AuditRefusal, Verdict};
 use line_reader::ConfigFault;
 use std::io::{self, Write};
@@ -22,7 +25,9 @@ pub enum Exit {
 
 impl Exit {
     /// Its status.
-    pub fn code(self) -> u8 {
+    pub fn code(self) -> u8
+        ensures { result ≡ exit_code self }
+    {
         match self {
             Exit::Done => 0,
             Exit::Differs => 1,

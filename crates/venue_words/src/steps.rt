@@ -4,8 +4,8 @@ ghost use Rattle.std.specs.Prelude.{◌≡◌, ◌+◌};
 use std::marker::Model;
 use std::sync::ledger::{Blank, Book, Ledger, Share};
 
-/// How many steps were taken: nodes visited, comparisons in a move history, groups visited, keyed
-/// look-ups. It has no bytes at run time, and only `tick` changes it.
+/// How many steps were taken: nodes visited, comparisons in a move history, groups visited. A look-up of an
+/// id or of a group by its key need not be one. It has no bytes at run time, and only `tick` changes it.
 #[derive(Drop)]
 pub struct Steps<L: Ledger> {
     book: Book<L>,
