@@ -1,6 +1,5 @@
 //! What all trials share: a config, a trade of its two members, and frames.
 ghost use Rattle.std.specs.Prelude.{◌≡◌, ◌<◌, ◌≤◌, true, length, IfOk};
-ghost use Rattle.desk_trials.specs.PlainFloors.{example_config};
 ghost use Rattle.venue_words.specs.Conditions.{IsConfig, fits_limits};
 ghost use Rattle.venue_words.specs.Floors.{is_configured};
 
@@ -9,9 +8,10 @@ mod desks;
 mod plans;
 
 use fix_write::wrap;
-use std::alloc::{AllocError, Global};
+use script_text::read_header;
+use std::alloc::Global;
 use std::sync::ledger::{Blank, Ledger};
-use venue_words::{Bytes, Command, Config, Floor, Items, NoMemory, Steps, Terms};
+use venue_words::{Bytes, Command, Config, Floor, NoMemory, Steps, Terms};
 
 /// The moment of all trials: 2024-01-02 14:30.
 const START: i64 = 1_704_205_800_000;
@@ -40,49 +40,43 @@ const ORDER: &[u8] =
 
 const ORDER_ANSWER: &[u8] = b"35=j|49=PEGV|56=DC|34=4|52=20240102-14:30:00.000|45=3|372=D|380=3|";
 
-/// Appends the frames of texts in which `|` stands for the end of a field.
-fn push_frames(alloc: Global, stream: &mut Vec<u8>, texts: &[&[u8]]) -> Result<(), NoMemory> {
-    for text in texts {
-        let mut content = Vec::with_capacity(alloc, text.len())?;
-        for byte in *text {
-            content.push(if *byte == b'|' { 1 } else { *byte })?;
-        }
-        stream.extend_from_slice(&wrap(alloc, &content)?)?;
+/// The frame of a text in which `|` stands for the end of a field.
+fn frame_of(alloc: Global, text: &[u8]) -> Result<Vec<u8>, NoMemory> {
+    let mut content = Vec::new(alloc);
+    for byte in text {
+        content.push(if *byte == b'|' { 1 } else { *byte })?;
     }
-    Ok(())
+    wrap(alloc, &content)
 }
 
 /// The frames of these texts, one behind the other.
 fn frames_of(alloc: Global, texts: &[&[u8]]) -> Result<Vec<u8>, NoMemory> {
     let mut stream = Vec::new(alloc);
-    push_frames(alloc, &mut stream, texts)?;
+    for text in texts {
+        let frame = frame_of(alloc, text)?;
+        stream.extend_from_slice(&frame)?;
+    }
     Ok(stream)
 }
 
 /// Members A and B, market N, and symbols X and Y.
-fn example(alloc: Global) -> Result<Config, AllocError>
-    ensures { IfOk result (λ config. config ≡ example_config) }
-{
-    let a = Bytes::copy_of(alloc, b"A")?;
-    let b = Bytes::copy_of(alloc, b"B")?;
-    Ok(Config {
-        members: Items(vec![in alloc; a, b]?),
-        markets: Items(vec![in alloc; Bytes::copy_of(alloc, b"N")?]?),
-        symbols: Items(vec![in alloc; Bytes::copy_of(alloc, b"X")?, Bytes::copy_of(alloc, b"Y")?]?),
-        limits: Items(vec![in alloc; 4, 4]?),
-        ticks: Items(vec![in alloc; 2, 2]?),
-        begin: 0,
-    })
-}
+const CONFIG: &[u8] =
+    b"PEGV 1\nMEMBER A\nMEMBER B\nMARKET N\nSYMBOL X 4\nSYMBOL Y 4\nBEGIN 19700101-00:00:00.000\n";
 
-/// The same, as every call takes it.
-fn config_of(alloc: Global) -> Result<Config, AllocError>
-    ensures valid { IfOk result IsConfig }
-    ensures example { IfOk result (λ config. config ≡ example_config) }
+/// The config of these.
+fn config_of(alloc: Global) -> Result<Config, NoMemory>
+    ensures config { IfOk result IsConfig }
+    ensures members { IfOk result (λ config. length config.members ≡ 2) }
+    ensures markets { IfOk result (λ config. length config.markets ≡ 1) }
+    ensures symbols { IfOk result (λ config. length config.limits ≡ 2) }
 {
-    match example(alloc) {
-        Ok(config) => Ok(config),
-        Err(refused) => Err(refused),
+    let Ok((config, _)) = read_header(alloc, CONFIG) else {
+        return Err(NoMemory);
+    };
+    if config.members.len() == 2 && config.markets.len() == 1 && config.limits.len() == 2 {
+        Ok(config)
+    } else {
+        Err(NoMemory)
     }
 }
 

@@ -1,16 +1,17 @@
 //! Worked examples over a desk, with each piece cut in two at many places.
-ghost use Rattle.std.specs.Prelude.{◌≡◌, ◌<◌, length, IfOk};
+ghost use Rattle.std.specs.Prelude.{◌≡◌, ◌≢◌, ℕ, ◌<◌, ◌^◌, length, IfOk};
 ghost use Rattle.venue_words.specs.Conditions.{IsConfig};
 ghost use Rattle.venue_words.specs.Floors.{IsSetUpFor};
-ghost use Rattle.desk_trials.specs.PlainFloors.{example_config};
+ghost use Rattle.member_gate.specs.Reporting.{AreFronts};
 
-mod floor;
+mod counting;
 mod sequences;
 
+use counting::Counting;
 use fix_fields::moment;
 use fix_write::wrap;
-use floor::PlainFloor;
 use member_gate::{CellDesks, Desk, DeskCell, DeskRefusal, DeskTable, Desks, desks_of};
+use script_text::read_header;
 use sequences::{
     FULL, GAP_AND_TICK, LOGON, NEXT_CONNECTION, NOT_TOO_LONG, ORDER, REFUSALS, RESEND, TOO_LONG,
     TOO_LOW, UNKNOWN,
@@ -20,7 +21,9 @@ use std::marker::Brand;
 use std::sync::Wait;
 use std::sync::ledger::{Blank, Ledger};
 use std::test::Fail;
-use venue_words::{Bytes, Command, Config, Floor, Items, NoMemory, Steps};
+use symbol_book::HashSeed;
+use venue_core::plain;
+use venue_words::{Bytes, Command, Config, Floor, NoMemory, Steps};
 
 /// Texts, in which `|` stands for the end of a field.
 type Texts = &'static [&'static [u8]];
@@ -53,11 +56,18 @@ fn bytes_of(alloc: Global, text: &[u8]) -> Result<Vec<u8>, AllocError> {
     Ok(bytes)
 }
 
+/// The frame of a content.
+fn frame_of(alloc: Global, text: &[u8]) -> Result<Vec<u8>, NoMemory> {
+    let content = bytes_of(alloc, text)?;
+    wrap(alloc, &content)
+}
+
 /// The frames of these contents, joined.
 fn frames_of(alloc: Global, texts: Texts) -> Result<Vec<u8>, NoMemory> {
     let mut bytes = Vec::new(alloc);
     for text in texts {
-        bytes.extend_from_slice(&wrap(alloc, &bytes_of(alloc, text)?)?)?;
+        let frame = frame_of(alloc, text)?;
+        bytes.extend_from_slice(&frame)?;
     }
     Ok(bytes)
 }
@@ -76,27 +86,44 @@ fn have_contents(alloc: Global, frames: &[Bytes], expected: Texts) -> Result<boo
         return Ok(false);
     }
     for (frame, text) in frames.iter().zip(expected) {
-        if frame.as_slice() != wrap(alloc, &bytes_of(alloc, text)?)?.as_slice() {
+        let wanted = frame_of(alloc, text)?;
+        if frame.as_slice() != wanted.as_slice() {
             return Ok(false);
         }
     }
     Ok(true)
 }
 
-/// The config of two members, one market and two symbols.
-fn config_of(alloc: Global) -> Result<Config, AllocError>
-    ensures { IfOk result (λ config. config ≡ example_config) }
+/// Two members, one market and two symbols, each of which takes four events.
+const CONFIG: &[u8] =
+    b"PEGV 1\nMEMBER A\nMEMBER B\nMARKET N\nSYMBOL X 4\nSYMBOL Y 4\nBEGIN 19700101-00:00:00.000\n";
+
+/// The config of these.
+fn config_of(alloc: Global) -> Result<Config, NoMemory>
+    ensures config { IfOk result IsConfig }
+    ensures members { IfOk result (λ config. length config.members ≡ 2) }
+    ensures markets { IfOk result (λ config. length config.markets ≡ 1) }
+    ensures symbols { IfOk result (λ config. length config.symbols ≡ 2) }
 {
-    let a = Bytes::copy_of(alloc, b"A")?;
-    let b = Bytes::copy_of(alloc, b"B")?;
-    Ok(Config {
-        members: Items(vec![in alloc; a, b]?),
-        markets: Items(vec![in alloc; Bytes::copy_of(alloc, b"N")?]?),
-        symbols: Items(vec![in alloc; Bytes::copy_of(alloc, b"X")?, Bytes::copy_of(alloc, b"Y")?]?),
-        limits: Items(vec![in alloc; 4, 4]?),
-        ticks: Items(vec![in alloc; 2, 2]?),
-        begin: 0,
-    })
+    config_in(alloc, CONFIG)
+}
+
+/// The config of a text that says so many.
+fn config_in(alloc: Global, text: &[u8]) -> Result<Config, NoMemory>
+    requires { length text.now < 2 ^ 31 }
+    ensures config { IfOk result IsConfig }
+    ensures members { IfOk result (λ config. length config.members ≡ 2) }
+    ensures markets { IfOk result (λ config. length config.markets ≡ 1) }
+    ensures symbols { IfOk result (λ config. length config.symbols ≡ 2) }
+{
+    let Ok((config, _)) = read_header(alloc, text) else {
+        return Err(NoMemory);
+    };
+    if config.members.len() == 2 && config.markets.len() == 1 && config.symbols.len() == 2 {
+        Ok(config)
+    } else {
+        Err(NoMemory)
+    }
 }
 
 /// Gives a desk a piece in two parts, cut at this place or at the end, and answers what it sends.
@@ -214,45 +241,55 @@ fn first_other<F: Floor, L: Ledger>(
     Ok(None)
 }
 
-/// A floor of that config, without events.
-fn floor_of(alloc: Global) -> Result<PlainFloor, AllocError>
-    ensures { IfOk result (λ floor. floor.config ≡ example_config) }
+/// Works the cases over a new desk of A and a new venue.
+fn other_over(
+    alloc: Global,
+    config: &Config,
+    cases: &[Case],
+    cut: usize,
+) -> Result<Option<usize>, DeskRefusal>
+    requires config { IsConfig config.now }
+    requires members { 0 < length config.now.members }
+    requires symbols { 0 < length config.now.symbols }
+    requires markets { 0 < length config.now.markets }
 {
-    Ok(PlainFloor {
-        alloc,
-        config: config_of(alloc)?,
-        journal: Vec::new(alloc),
-        own: Vec::new(alloc),
-        asked: 0,
-    })
+    let mut desk = Desk::new(alloc, 0, config)?;
+    let mut floor = plain(alloc, HashSeed::fixed(), config)?;
+    let blank = Blank::new(1);
+    first_other::<_, Brand>(alloc, &mut desk, &mut floor, config, cases, cut, blank)
 }
 
-/// Works the cases over a new desk of A.
 fn goes_otherwise(alloc: Global, cases: &[Case], cut: usize) -> Result<Option<usize>, DeskRefusal> {
     let config = config_of(alloc)?;
-    let mut desk = Desk::new(alloc, 0, &config)?;
-    let mut floor = floor_of(alloc)?;
-    let blank = Blank::new(1);
-    first_other::<PlainFloor, Brand>(alloc, &mut desk, &mut floor, &config, cases, cut, blank)
+    other_over(alloc, &config, cases, cut)
 }
+
+/// How many sequences there are.
+const SEQUENCES: usize = 9;
+
+/// The sequence with this number.
+fn sequence(number: usize) -> &'static [Case] {
+    match number {
+        0 => RESEND,
+        1 => REFUSALS,
+        2 => UNKNOWN,
+        3 => TOO_LONG,
+        4 => NOT_TOO_LONG,
+        5 => NEXT_CONNECTION,
+        6 => GAP_AND_TICK,
+        7 => TOO_LOW,
+        _ => FULL,
+    }
+}
+
+/// The places at which pieces are cut.
+const CUTS: [usize; 7] = [0, 1, 11, 20, 40, 90, 1000];
 
 #[test]
 fn worked_examples(rt: HostRuntime) -> Result<(), Fail> {
-    let alloc = rt.alloc();
-    let sequences: [&[Case]; 9] = [
-        &RESEND,
-        &REFUSALS,
-        &UNKNOWN,
-        &TOO_LONG,
-        &NOT_TOO_LONG,
-        &NEXT_CONNECTION,
-        &GAP_AND_TICK,
-        &TOO_LOW,
-        &FULL,
-    ];
-    for (number, cases) in sequences.iter().enumerate() {
-        for cut in [0, 1, 11, 20, 40, 90, 1000] {
-            let other = goes_otherwise(alloc, cases, cut).map_err(|_| NoMemory)?;
+    for number in 0..SEQUENCES {
+        for cut in &CUTS {
+            let other = goes_otherwise(rt.alloc(), sequence(number), *cut).map_err(|_| NoMemory)?;
             assert!(rt;
                 other.is_none(),
                 "sequence {number}, cut at {cut}: {other:?}"
@@ -262,7 +299,36 @@ fn worked_examples(rt: HostRuntime) -> Result<(), Fail> {
     Ok(())
 }
 
+/// How many reports of a symbol there are.
+fn front_of<F: Floor>(floor: &mut F, symbol: u32) -> Result<u32, NoMemory>
+    requires symbol { symbol < length (F.mark floor.old).setup.limits }
+    requires member { 0 < (F.mark floor.old).setup.members }
+    ensures mark { F.mark floor.new ≡ F.mark floor.old }
+    ensures others { (other : ℕ) → other ≢ symbol → F.at floor.new other ≡ F.at floor.old other }
+    ensures front { IfOk result (λ front. front ≡ length (F.at floor.new symbol).reports) }
+{
+    let look = floor.reports_after(symbol, 0, 0)?;
+    Ok(look.front)
+}
+
 /// Pulls news where there are some: whether there were, how many frames came, and whether there are some then.
+fn pull_known<F: Floor>(
+    desk: &mut Desk,
+    floor: &mut F,
+    config: &Config,
+    fronts: &[u32],
+) -> Result<(bool, usize, bool), NoMemory>
+    requires config { IsConfig config.now }
+    requires setup { IsSetUpFor config.now (F.mark floor.old).setup }
+    requires member { desk.old.member < length config.now.members }
+    requires fronts { AreFronts (length config.now.symbols) (λ symbol. (F.at floor.old symbol).reports) fronts.now }
+{
+    let before = desk.has_news(fronts);
+    let frames = desk.pull_news(floor, config, fronts, start())?;
+    Ok((before, frames.len(), desk.has_news(fronts)))
+}
+
+/// The same where both symbols are asked first.
 fn pull_where_news<F: Floor>(
     desk: &mut Desk,
     floor: &mut F,
@@ -273,12 +339,9 @@ fn pull_where_news<F: Floor>(
     requires member { desk.old.member < length config.now.members }
     requires symbols { length config.now.symbols ≡ 2 }
 {
-    let first = floor.reports_after(0, 0, 0)?.front;
-    let second = floor.reports_after(1, 0, 0)?.front;
-    let fronts = [first, second];
-    let before = desk.has_news(&fronts);
-    let frames = desk.pull_news(floor, config, &fronts, start())?;
-    Ok((before, frames.len(), desk.has_news(&fronts)))
+    let first = front_of(floor, 0)?;
+    let second = front_of(floor, 1)?;
+    pull_known(desk, floor, config, &[first, second])
 }
 
 /// A logs on and enters an order: what its desk then tells and pulls as news, and how many commands it submitted.
@@ -302,13 +365,16 @@ fn news_of_order<F: Floor, L: Ledger>(
     Ok((pull_where_news(desk, floor, config)?, submitted))
 }
 
-/// The same over a new desk and floor, and how often the symbol without a book was asked.
+/// The same over a new desk and a new venue, and how often the second symbol was asked.
 fn news_and_asked(alloc: Global) -> Result<((bool, usize, bool), u32, u32), DeskRefusal> {
     let config = config_of(alloc)?;
     let mut desk = Desk::new(alloc, 0, &config)?;
-    let mut floor = floor_of(alloc)?;
+    let mut floor = Counting {
+        floor: plain(alloc, HashSeed::fixed(), &config)?,
+        asked: 0,
+    };
     let blank = Blank::new(1);
-    let (pulled, submitted) = news_of_order::<PlainFloor, Brand>(
+    let (pulled, submitted) = news_of_order::<_, Brand>(
         alloc, &mut desk, &mut floor, &config, blank,
     )?;
     Ok((pulled, submitted, floor.asked))

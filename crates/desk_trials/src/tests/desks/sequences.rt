@@ -12,7 +12,7 @@ pub const ORDER: &[u8] =
 const LOGGED_ON: Case = (Received::Messages(&[LOGON]), &[LOGON_ANSWER], &[]);
 
 /// The acknowledgement of an order is asked for again.
-pub const RESEND: [Case; 4] = [
+pub const RESEND: &[Case] = &[
     LOGGED_ON,
     (Received::Quote, &[], &[]),
     (
@@ -33,7 +33,7 @@ pub const RESEND: [Case; 4] = [
 ];
 
 /// Orders of a symbol that is not configured, an order without a quantity, and a message of another type.
-pub const REFUSALS: [Case; 6] = [
+pub const REFUSALS: &[Case] = &[
     LOGGED_ON,
     (
         Received::Messages(&[
@@ -75,7 +75,7 @@ pub const REFUSALS: [Case; 6] = [
 ];
 
 /// A cancel and a status request that name no order reach the book, which answers them.
-pub const UNKNOWN: [Case; 3] = [
+pub const UNKNOWN: &[Case] = &[
     LOGGED_ON,
     (
         Received::Messages(&[
@@ -96,7 +96,7 @@ pub const UNKNOWN: [Case; 3] = [
 ];
 
 /// A frame that declares one byte too many ends the connection. Nothing is worked then, until a new one.
-pub const TOO_LONG: [Case; 5] = [
+pub const TOO_LONG: &[Case] = &[
     LOGGED_ON,
     (
         Received::Raw(b"8=FIXT.1.1|9=8168|"),
@@ -113,10 +113,10 @@ pub const TOO_LONG: [Case; 5] = [
 ];
 
 /// One that declares the greatest length is waited for.
-pub const NOT_TOO_LONG: [Case; 2] = [LOGGED_ON, (Received::Raw(b"8=FIXT.1.1|9=8167|"), &[], &[])];
+pub const NOT_TOO_LONG: &[Case] = &[LOGGED_ON, (Received::Raw(b"8=FIXT.1.1|9=8167|"), &[], &[])];
 
 /// A report of a connection that has ended waits for the next one, and then comes once.
-pub const NEXT_CONNECTION: [Case; 5] = [
+pub const NEXT_CONNECTION: &[Case] = &[
     LOGGED_ON,
     (
         Received::Messages(&[ORDER, b"35=5|49=A|56=PEGV|34=3|52=20240102-14:30:00|"]),
@@ -135,7 +135,7 @@ pub const NEXT_CONNECTION: [Case; 5] = [
 ];
 
 /// A message that comes too early is asked for, and a heartbeat is sent after 30 seconds.
-pub const GAP_AND_TICK: [Case; 3] = [
+pub const GAP_AND_TICK: &[Case] = &[
     LOGGED_ON,
     (
         Received::Messages(&[b"35=0|49=A|56=PEGV|34=3|52=20240102-14:30:00|"]),
@@ -150,7 +150,7 @@ pub const GAP_AND_TICK: [Case; 3] = [
 ];
 
 /// A number that came before is passed over where it may be sent again, and else ends the connection.
-pub const TOO_LOW: [Case; 3] = [
+pub const TOO_LOW: &[Case] = &[
     LOGGED_ON,
     (
         Received::Messages(&[b"35=0|49=A|56=PEGV|34=1|52=20240102-14:30:00|43=Y|"]),
@@ -165,7 +165,7 @@ pub const TOO_LOW: [Case; 3] = [
 ];
 
 /// A journal that is full ends the connection. What was taken stands, and is reported on the next one.
-pub const FULL: [Case; 5] = [
+pub const FULL: &[Case] = &[
     LOGGED_ON,
     (
         Received::Refused(&[
