@@ -1,5 +1,5 @@
 //! The last change below a limit, on examples and beside a plain list of all moves.
-ghost use Rattle.std.specs.Prelude.{◌≡◌};
+ghost use Rattle.std.specs.Prelude.{◌≡◌, ◌<◌, OnOk};
 
 use super::random::Random;
 use move_history::Moves;
@@ -23,23 +23,40 @@ fn plain_changed(first: u32, moves: &[(u32, u32)], cap: u32) -> u32 {
     answer
 }
 
-fn worked_example<L: Ledger>(alloc: Global, steps: &mut Steps<L>) -> Result<[u32; 4], NoMemory> {
-    let mut moves = Moves::start(alloc, 0);
+/// Pushes a move.
+fn push_move<L: Ledger>(
+    moves: &mut Moves,
+    event: u32,
+    value: u32,
+    steps: &mut Steps<L>,
+) -> Result<(), NoMemory>
+    requires { moves.old.latest < event }
+    ensures { OnOk result (moves.new.latest ≡ event) }
+{
     moves.reserve()?;
-    moves.push(2, 2001, steps);
-    moves.reserve()?;
-    moves.push(4, 2003, steps);
+    moves.push(event, value, steps);
+    Ok(())
+}
+
+fn push_example<L: Ledger>(moves: &mut Moves, steps: &mut Steps<L>) -> Result<[u32; 4], NoMemory>
+    requires { moves.old.latest ≡ 0 }
+{
+    push_move(moves, 2, 2001, steps)?;
+    push_move(moves, 4, 2003, steps)?;
     let early = moves.changed(2000, steps);
-    moves.reserve()?;
-    moves.push(6, 1999, steps);
-    moves.reserve()?;
-    moves.push(8, 2003, steps);
+    push_move(moves, 6, 1999, steps)?;
+    push_move(moves, 8, 2003, steps)?;
     Ok([
         early,
         moves.changed(2000, steps),
         moves.changed(1990, steps),
         moves.changed(2002, steps),
     ])
+}
+
+fn worked_example<L: Ledger>(alloc: Global, steps: &mut Steps<L>) -> Result<[u32; 4], NoMemory> {
+    let mut moves = Moves::start(alloc, 0);
+    push_example(&mut moves, steps)
 }
 
 fn count_example<L: Ledger>(alloc: Global, blank: Blank) -> Result<[u32; 4], NoMemory>

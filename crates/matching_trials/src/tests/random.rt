@@ -15,6 +15,7 @@ impl Random {
             .0
             .wrapping_mul(6_364_136_223_846_793_005)
             .wrapping_add(1_442_695_040_888_963_407);
-        u32::try_from(self.0 >> 33).unwrap_or(0) % end
+        let high = self.0 >> 33;
+        (high % u64::from(end)) as u32
     }
 }

@@ -255,15 +255,19 @@ fn by_rows<L: Ledger>(alloc: Global, steps: &mut Steps<L>) -> Result<Vec<Answer>
     long_run(&mut side, alloc, steps)
 }
 
+fn is_large(last: Option<&Answer>) -> bool {
+    match last {
+        Some(answer) => answer.rows > 100 && answer.keys > 5,
+        None => false,
+    }
+}
+
 fn compare(rt: &impl Abort, answers: &[Answer], others: &[Answer]) {
     assert_eq!(rt; answers.len(), others.len());
     for (number, (answer, other)) in answers.iter().zip(others.iter()).enumerate() {
         assert_eq!(rt; answer, other, "at {number}");
     }
-    let is_large = answers
-        .last()
-        .is_some_and(|answer| answer.rows > 100 && answer.keys > 5);
-    assert!(rt; is_large);
+    assert!(rt; is_large(answers.last()));
 }
 
 fn compare_sides<L: Ledger>(

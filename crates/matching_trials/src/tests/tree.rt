@@ -46,6 +46,47 @@ fn boxed(alloc: Global, cap: u32, entry: u32) -> Result<Box<Node>, AllocError>
     }
 }
 
+/// A row enters where none of its cap and entry is held.
+fn enter<L: Ledger>(rt: &impl Abort, tree: &mut LimitTree, node: Box<Node>, steps: &mut Steps<L>)
+    requires { IsLeaf node.value }
+{
+    let held = tree.holds(node.row.cap, node.row.entry, steps);
+    assert!(rt; !held);
+    if !held {
+        tree.put(node, steps);
+    }
+}
+
+fn fill_example<L: Ledger>(
+    rt: &impl Abort,
+    alloc: Global,
+    tree: &mut LimitTree,
+    steps: &mut Steps<L>,
+) -> Result<(), AllocError> {
+    enter(rt, tree, boxed(alloc, 2000, 5)?, steps);
+    enter(rt, tree, boxed(alloc, 2010, 3)?, steps);
+    enter(rt, tree, boxed(alloc, 1990, 1)?, steps);
+    Ok(())
+}
+
+/// Whether this pair was found.
+fn is_pair(found: Pair, cap: u32, entry: u32) -> bool {
+    match found {
+        Some((found_cap, found_entry)) => found_cap == cap && found_entry == entry,
+        None => false,
+    }
+}
+
+fn look_up_example<L: Ledger>(rt: &impl Abort, tree: &LimitTree, steps: &mut Steps<L>) {
+    assert!(rt; is_pair(tree.first_above(1995, steps), 2010, 3));
+    assert!(rt; is_pair(tree.first_at(2000, steps), 2000, 5));
+    assert!(rt; is_pair(tree.highest_below(2000, steps), 1990, 1));
+    assert!(rt; tree.first_above(2010, steps).is_none());
+    assert!(rt; tree.holds(2000, 5, steps));
+    assert!(rt; tree.holds(2010, 3, steps));
+    assert!(rt; tree.holds(1990, 1, steps));
+}
+
 fn worked_example<L: Ledger>(
     rt: &impl Abort,
     alloc: Global,
@@ -53,23 +94,10 @@ fn worked_example<L: Ledger>(
 ) -> Result<(), AllocError> {
     let mut tree = LimitTree::new();
     assert!(rt; tree.is_empty());
-    for (cap, entry) in [(2000, 5), (2010, 3), (1990, 1)] {
-        let node = boxed(alloc, cap, entry)?;
-        let held = tree.holds(cap, entry, steps);
-        assert!(rt; !held);
-        if !held {
-            tree.put(node, steps);
-        }
-    }
+    fill_example(rt, alloc, &mut tree, steps)?;
     assert!(rt; !tree.is_empty());
-    assert_eq!(rt; tree.first_above(1995, steps), Some((2010, 3)));
-    assert_eq!(rt; tree.first_at(2000, steps), Some((2000, 5)));
-    assert_eq!(rt; tree.highest_below(2000, steps), Some((1990, 1)));
-    assert_eq!(rt; tree.first_above(2010, steps), None);
     assert!(rt; tree.cut(2000, 4, steps).is_none());
-    assert!(rt;
-        tree.holds(2000, 5, steps) && tree.holds(2010, 3, steps) && tree.holds(1990, 1, steps)
-    );
+    look_up_example(rt, &tree, steps);
     Ok(())
 }
 
@@ -84,8 +112,11 @@ fn place(pairs: &[(u32, u32)], cap: u32, entry: u32) -> Option<usize> {
 fn least_between(pairs: &[(u32, u32)], start: u32, end: u32) -> Option<u32> {
     let mut least = None;
     for (cap, entry) in pairs {
-        if start <= *cap && *cap < end && least.is_none_or(|other| *entry < other) {
-            least = Some(*entry);
+        if start <= *cap && *cap < end {
+            least = Some(match least {
+                Some(other) => (*entry).min(other),
+                None => *entry,
+            });
         }
     }
     least
@@ -95,8 +126,11 @@ fn least_between(pairs: &[(u32, u32)], start: u32, end: u32) -> Option<u32> {
 fn greatest_below(pairs: &[(u32, u32)], value: u32) -> Option<u32> {
     let mut greatest = None;
     for (cap, _) in pairs {
-        if *cap < value && greatest.is_none_or(|other| other < *cap) {
-            greatest = Some(*cap);
+        if *cap < value {
+            greatest = Some(match greatest {
+                Some(other) => (*cap).max(other),
+                None => *cap,
+            });
         }
     }
     greatest
@@ -157,6 +191,14 @@ fn compare_look_ups<L: Ledger>(
     }
 }
 
+/// Whether what was cut is the row of this cap and entry.
+fn is_cut(found: Option<Box<Node>>, cap: u32, entry: u32) -> bool {
+    match found {
+        Some(node) => node.row.cap == cap && node.row.entry == entry,
+        None => false,
+    }
+}
+
 fn compare_many<L: Ledger>(
     rt: &impl Abort,
     alloc: Global,
@@ -182,10 +224,7 @@ fn compare_many<L: Ledger>(
             Some(at) => {
                 assert!(rt; held);
                 if round % 3 == 0 {
-                    let found = tree
-                        .cut(cap, entry, steps)
-                        .map(|node| (node.cap, node.row.entry));
-                    assert_eq!(rt; found, Some((cap, entry)));
+                    assert!(rt; is_cut(tree.cut(cap, entry, steps), cap, entry));
                     if at < pairs.len() {
                         pairs.swap_remove(at);
                     }
