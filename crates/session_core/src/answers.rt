@@ -5,7 +5,7 @@ ghost use Rattle.session_core.specs.Answers.{logs_out, drops, rejects, drops_wro
 use crate::bodies::{logout, reject};
 use crate::lookup::text_in;
 use crate::message::Incoming;
-use crate::plan::{Plan, says, stays};
+use crate::plan::{Plan, says_one, stays, then_says};
 use crate::reasons::WRONG_NAME;
 use crate::state::{EndCause, State, ended, is_up};
 use crate::tags::MSG_TYPE;
@@ -18,8 +18,7 @@ pub fn logs_out(alloc: Global, state: State, cause: EndCause, text: &[u8]) -> Re
     ensures plan { IfOk result (λ p. p ≡ logs_out state cause text.now) }
     ensures quiet { IfOk result (λ p. p.request ≡ None) }
 {
-    let message = logout(alloc, text)?;
-    Ok(says(ended(cause, state), vec![in alloc; message]?))
+    says_one(alloc, ended(cause, state), logout(alloc, text)?)
 }
 
 /// The connection ends; a Logout is sent where a Logon was taken.
@@ -48,8 +47,11 @@ pub fn rejects(
     ensures quiet { IfOk result (λ p. p.request ≡ None) }
 {
     let kind = text_in(MSG_TYPE, incoming.fields.as_slice());
-    let message = reject(alloc, incoming.number, tag, kind, reason)?;
-    Ok(says(state, vec![in alloc; message]?))
+    says_one(
+        alloc,
+        state,
+        reject(alloc, incoming.number, tag, kind, reason)?,
+    )
 }
 
 /// A message from or to somebody else ends the connection; it is rejected where a Logon was taken.
@@ -69,6 +71,6 @@ pub fn drops_wrong_name(
     }
     let kind = text_in(MSG_TYPE, incoming.fields.as_slice());
     let rejection = reject(alloc, incoming.number, tag, kind, WRONG_NAME)?;
-    let farewell = logout(alloc, b"WRONG NAME")?;
-    Ok(says(state_after, vec![in alloc; rejection, farewell]?))
+    let plan = says_one(alloc, state_after, rejection)?;
+    then_says(plan, logout(alloc, b"WRONG NAME")?)
 }

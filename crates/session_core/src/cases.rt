@@ -8,7 +8,7 @@ use crate::bodies::{heartbeat, test_request};
 use crate::logon::before_logon;
 use crate::lookup::is_value;
 use crate::message::Incoming;
-use crate::plan::{Plan, says, stays};
+use crate::plan::{Plan, says_one, stays};
 use crate::sequence::when_up;
 use crate::state::{EndCause, State, is_up};
 use crate::tags::{SENDER_COMP_ID, TARGET_COMP_ID};
@@ -73,15 +73,14 @@ pub fn on_tick(alloc: Global, moment: i64, state: State) -> Result<Plan, NoMemor
         return logs_out(alloc, state, EndCause::Silent, b"SILENT");
     }
     if !state.test_out && has_passed(2000 * seconds, state.received, moment) {
-        let test = test_request(alloc)?;
         let waiting = State {
             test_out: true,
             ..state
         };
-        return Ok(says(waiting, vec![in alloc; test]?));
+        return says_one(alloc, waiting, test_request(alloc)?);
     }
     if has_passed(1000 * seconds, state.sent_at, moment) {
-        return Ok(says(state, vec![in alloc; heartbeat(alloc)]?));
+        return says_one(alloc, state, heartbeat(alloc));
     }
     Ok(stays(alloc, state))
 }

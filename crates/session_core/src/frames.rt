@@ -1,6 +1,6 @@
 //! The frames of messages with new numbers, and what is kept of these.
 ghost use Rattle.std.specs.Prelude.{◌≡◌, ◌<◌, ◌+◌, ◌^◌, ◌++◌, IfOk, OnOk, OnErr, length};
-ghost use Rattle.session_core.specs.Frames.{new_frame, new_frames, all_kept, numbers};
+ghost use Rattle.session_core.specs.Frames.{new_frame, new_frames, kept, all_kept, numbers};
 
 use crate::message::{Entry, Message};
 use fix_write::{Head, frame};
@@ -58,9 +58,16 @@ pub fn push_numbers(sent: &mut Vec<Entry>, count: usize) -> Result<(), NoMemory>
 {
     sent.reserve(count)?;
     for i in 0..count {
-        let _ = sent.push(Entry::of_session());
+        sent.push_reserved(Entry::of_session());
     }
     Ok(())
+}
+
+/// What is kept of a copy of an application message.
+fn entry_of(alloc: Global, moment: i64, message: &Message) -> Result<Entry, NoMemory>
+    ensures { IfOk result (λ entry. entry ≡ kept moment message.now) }
+{
+    Entry::of_application(alloc, message.copy(alloc)?, moment)
 }
 
 /// What is kept of application messages.
@@ -69,7 +76,7 @@ pub fn entries_of(alloc: Global, moment: i64, messages: &[Message]) -> Result<Ve
 {
     let mut entries = Vec::with_capacity(alloc, messages.len())?;
     for message in messages {
-        entries.push(Entry::of_application(alloc, message.copy(alloc)?, moment)?)?;
+        entries.push(entry_of(alloc, moment, message)?)?;
     }
     Ok(entries)
 }

@@ -5,11 +5,12 @@ ghost use Rattle.session_core.specs.Lookup.{number_in};
 ghost use Rattle.session_core.specs.Logon.{is_bad_logon, logged_on, takes_logon, on_logon, before_logon};
 
 use crate::answers::logs_out;
-use crate::bodies::{logon, resend_request};
+use crate::bodies::logon;
 use crate::lookup::{is_value, is_yes, number_in, number_or_zero, text_in};
 use crate::message::Incoming;
 use crate::message_types::LOGON;
-use crate::plan::{Plan, says, stays};
+use crate::plan::{Plan, says_one, stays};
+use crate::resend::then_asks_again;
 use crate::state::{EndCause, Phase, State, ended};
 use crate::tables::failed_of;
 use crate::tags::{DEFAULT_APPL_VER_ID, ENCRYPT_METHOD, HEART_BT_INT, RESET_SEQ_NUM_FLAG};
@@ -73,14 +74,13 @@ fn takes_logon(
 {
     let interval = text_in(HEART_BT_INT, incoming.fields.as_slice());
     let answer = logon(alloc, interval, reset)?;
-    let messages = if next < incoming.number {
-        vec![in alloc; answer, resend_request(alloc, next)?]?
-    } else {
-        vec![in alloc; answer]?
-    };
-    let mut plan = says(logged_on(state, incoming, next), messages);
+    let mut plan = says_one(alloc, logged_on(state, incoming, next), answer)?;
     plan.reset = reset;
-    Ok(plan)
+    if next < incoming.number {
+        then_asks_again(alloc, plan, next)
+    } else {
+        Ok(plan)
+    }
 }
 
 /// What a Logon asks.

@@ -8,7 +8,7 @@ use std::marker::Model;
 use venue_words::{Bytes, Items, NoMemory};
 
 /// A message that was received, with its number.
-#[derive(Debug, Drop)]
+#[derive(Drop)]
 pub(crate) struct Incoming<'a> {
     /// MsgSeqNum(34).
     pub number: u32,
@@ -62,7 +62,7 @@ pub struct Kept {
 
 /// What is kept under the number of a message that was sent: an application message whole, and of a message of the
 /// session nothing, so that it costs little.
-#[derive(Debug, Drop)]
+#[derive(Drop)]
 pub(crate) struct Entry(Option<Box<Kept>>);
 
 impl Model for Entry {

@@ -1,28 +1,28 @@
 //! What a turn is to do, before it is carried out.
-ghost use Rattle.std.specs.Prelude.{◌≡◌};
+ghost use Rattle.std.specs.Prelude.{◌≡◌, ◌++◌, IfOk, [], ◌∷◌};
 ghost use Rattle.session_core.specs.Plan.{says, stays, hands_out, sends_again};
 
 use crate::message::{Incoming, Message};
 use crate::state::State;
 use std::alloc::Global;
-use venue_words::Items;
+use venue_words::{Items, NoMemory};
 
 /// Numbers of messages that are sent again, from the first to the last.
-#[derive(Clone, Copy, Debug, PartialEq, Eq)]
+#[derive(Clone, Copy)]
 pub struct Span {
     pub first: u64,
     pub last: u64,
 }
 
 /// What is known of a message that is handed out, beside its fields.
-#[derive(Clone, Copy, Debug, PartialEq, Eq)]
+#[derive(Clone, Copy)]
 pub struct RequestHead {
     pub number: u32,
     pub kind: u8,
 }
 
 /// What a turn is to do.
-#[derive(Debug, Drop)]
+#[derive(Drop)]
 pub struct Plan {
     /// The session's next state.
     pub state: State,
@@ -47,6 +47,21 @@ pub fn says(state: State, messages: Vec<Message>) -> Plan
         messages: Items(messages),
         request: None,
     }
+}
+
+/// One message is sent.
+pub fn says_one(alloc: Global, state: State, message: Message) -> Result<Plan, NoMemory>
+    ensures { IfOk result (λ p. p ≡ says state (message ∷ [])) }
+{
+    Ok(says(state, vec![in alloc; message]?))
+}
+
+/// A message is sent behind all that a plan sends.
+pub fn then_says(mut plan: Plan, message: Message) -> Result<Plan, NoMemory>
+    ensures { IfOk result (λ p. p ≡ record plan { messages = plan.messages ++ message ∷ [] }) }
+{
+    plan.messages.push(message)?;
+    Ok(plan)
 }
 
 /// Nothing is sent.

@@ -6,7 +6,7 @@ use crate::answers::rejects;
 use crate::bodies::resend_request;
 use crate::lookup::number_or_zero;
 use crate::message::Incoming;
-use crate::plan::{Plan, Span, sends_again};
+use crate::plan::{Plan, Span, sends_again, then_says};
 use crate::reasons::VALUE_OUT_OF_RANGE;
 use crate::state::State;
 use crate::tags::{BEGIN_SEQ_NO, END_SEQ_NO};
@@ -56,10 +56,8 @@ pub fn on_resend_request(
 }
 
 /// The plan, and a ResendRequest behind all that it sends.
-pub fn then_asks_again(alloc: Global, mut plan: Plan, next: u32) -> Result<Plan, NoMemory>
+pub fn then_asks_again(alloc: Global, plan: Plan, next: u32) -> Result<Plan, NoMemory>
     ensures { IfOk result (λ p. p ≡ then_asks_again plan next) }
 {
-    let message = resend_request(alloc, next)?;
-    plan.messages.push(message)?;
-    Ok(plan)
+    then_says(plan, resend_request(alloc, next)?)
 }

@@ -79,7 +79,7 @@ impl Session {
         }
         let mut frames = Vec::with_capacity(self.allocator(), 1)?;
         let frame = self.reject(number, kind, tag, reason, moment)?;
-        let _ = frames.push(frame);
+        frames.push_reserved(frame);
         Ok(self.sending(frames))
     }
 
@@ -121,7 +121,7 @@ impl Session {
         let mut answers = Vec::with_capacity(self.allocator(), inputs.len())?;
         for input in inputs {
             let answer = self.work(input);
-            let _ = answers.push(answer);
+            answers.push_reserved(answer);
         }
         Ok(answers)
     }

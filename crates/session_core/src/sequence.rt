@@ -11,7 +11,7 @@ use crate::message::Incoming;
 use crate::message_types::{
     HEARTBEAT, LOGON, LOGOUT, REJECT, RESEND_REQUEST, SEQUENCE_RESET, TEST_REQUEST, is_order,
 };
-use crate::plan::{Plan, hands_out, says, stays};
+use crate::plan::{Plan, hands_out, says_one, stays};
 use crate::reasons::{VALUE_OUT_OF_RANGE, WRONG_TYPE};
 use crate::resend::{on_resend_request, then_asks_again};
 use crate::state::{EndCause, State};
@@ -95,8 +95,7 @@ fn too_early(
         let plan = on_resend_request(alloc, state, incoming, sent)?;
         return then_asks_again(alloc, plan, state.next_in);
     }
-    let message = resend_request(alloc, state.next_in)?;
-    Ok(says(state, vec![in alloc; message]?))
+    says_one(alloc, state, resend_request(alloc, state.next_in)?)
 }
 
 /// A TestRequest is answered by a Heartbeat with its identifier.
@@ -106,8 +105,7 @@ fn answers_test(alloc: Global, state: State, incoming: &Incoming<'_>) -> Result<
     ensures quiet { IfOk result (λ p. p.request ≡ None) }
 {
     let id = text_in(TEST_REQ_ID, incoming.fields.as_slice());
-    let message = test_answer(alloc, id)?;
-    Ok(says(state, vec![in alloc; message]?))
+    says_one(alloc, state, test_answer(alloc, id)?)
 }
 
 /// What a message that passes the checks asks, by its type.

@@ -40,7 +40,8 @@ impl Model for Session {
 impl Session {
     ghost use Rattle.session_core.specs.Frames.{numbers_of};
     ghost use Rattle.session_core.specs.Plan.{HandsOutUp};
-    ghost use Rattle.session_core.specs.State.{cause_of};
+    ghost use Rattle.session_core.specs.State.{cause_of, heard};
+    ghost use Rattle.session_core.specs.Cases.{on_no_number, on_message};
     ghost use Rattle.session_core.specs.Machine.{sending, rests, sent_before, replies_of, machine_after, carried_out, plan_for, on_fields, on_frame, ticks, on_clock, ends_too_long, on_overlong, on_send, on_send_one, on_reject, connected, given_up, fresh, IsUp, IsOver};
 
     /// The session of a member, closed until a Logon. This takes no memory.
@@ -180,6 +181,44 @@ impl Session {
         })
     }
 
+    /// What a message with no number does, over its fields. Nothing changes where memory is wanted.
+    fn work_unnumbered<'a>(
+        &mut self,
+        fields: Items<Field<'a>>,
+        moment: i64,
+    ) -> Result<Turn<'a>, NoMemory>
+        ensures machine { OnOk result (self.new ≡ (carried_out self.old moment fields.entry
+            (on_no_number (heard moment self.old.state))).machine) }
+        ensures turn { IfOk result (λ turn. turn ≡ (carried_out self.old moment fields.entry
+            (on_no_number (heard moment self.old.state))).turn) }
+        ensures up { IfOk result (λ turn. OnSome turn.request (IsUp self.new)) }
+        ensures err { OnErr result (self.new ≡ self.old) }
+    {
+        let state = heard(moment, self.state);
+        let plan = drops(self.alloc, state, EndCause::NoNumber, b"NO NUMBER")?;
+        self.carry_out(moment, fields, &plan)
+    }
+
+    /// What a message of a number does. Nothing changes where memory is wanted.
+    fn work_numbered<'a>(
+        &mut self,
+        incoming: Incoming<'a>,
+        moment: i64,
+    ) -> Result<Turn<'a>, NoMemory>
+        requires { incoming.number < 1_000_000_000 }
+        ensures machine { OnOk result (self.new ≡ (carried_out self.old moment incoming.entry.fields
+            (on_message self.old.member (length self.old.sent) (heard moment self.old.state) incoming.entry)).machine) }
+        ensures turn { IfOk result (λ turn. turn ≡ (carried_out self.old moment incoming.entry.fields
+            (on_message self.old.member (length self.old.sent) (heard moment self.old.state) incoming.entry)).turn) }
+        ensures up { IfOk result (λ turn. OnSome turn.request (IsUp self.new)) }
+        ensures err { OnErr result (self.new ≡ self.old) }
+    {
+        let state = heard(moment, self.state);
+        let sent = self.sent.len() as u64;
+        let plan = on_message(self.alloc, self.member.as_slice(), sent, state, &incoming)?;
+        self.carry_out(moment, incoming.fields, &plan)
+    }
+
     /// What a message of these fields does. Nothing changes where memory is wanted.
     fn work_fields<'a>(&mut self, fields: Vec<Field<'a>>, moment: i64) -> Result<Turn<'a>, NoMemory>
         ensures machine { OnOk result (self.new ≡ (on_fields self.old moment (Ok fields.entry.items)).machine) }
@@ -187,19 +226,15 @@ impl Session {
         ensures up { IfOk result (λ turn. OnSome turn.request (IsUp self.new)) }
         ensures err { OnErr result (self.new ≡ self.old) }
     {
-        let state = heard(moment, self.state);
         let Some(number) = message_number(&fields) else {
-            let plan = drops(self.alloc, state, EndCause::NoNumber, b"NO NUMBER")?;
-            return self.carry_out(moment, Items(fields), &plan);
+            return self.work_unnumbered(Items(fields), moment);
         };
         let incoming = Incoming {
             number,
             kind: kind_of(&fields),
             fields: Items(fields),
         };
-        let sent = self.sent.len() as u64;
-        let plan = on_message(self.alloc, self.member.as_slice(), sent, state, &incoming)?;
-        self.carry_out(moment, incoming.fields, &plan)
+        self.work_numbered(incoming, moment)
     }
 
     /// What a frame does. Nothing changes where memory is wanted.
