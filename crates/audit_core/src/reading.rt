@@ -71,6 +71,8 @@ impl Auditor {
         }
     }
 
+    // A part is let go by a call wherever it ends: a part that ends by itself is proved field by field at each end.
+
     /// The part that is read; where all of it was read its end is told, and the next one follows.
     fn go_on<W: Watch>(
         &mut self,
@@ -79,6 +81,7 @@ impl Auditor {
         watch: &mut W,
     ) -> Result<(), WatchFault>
         requires at { IsAt config.now self.old }
+        requires none { self.old.part ≡ None }
         requires open { IsOpen config.now self.old.symbol part }
         requires heard { W.heard watch.old config.now self.old.symbol part.book.journal }
         ensures goes { MatchResult result
@@ -88,11 +91,16 @@ impl Auditor {
     {
         let _symbols = config.symbols.len();
         if part.is_whole() {
-            watch.on_end(config, self.symbol, &part.book)?;
-            self.part = None;
+            match watch.on_end(config, self.symbol, &part.book) {
+                Ok(()) => drop(part),
+                Err(fault) => {
+                    drop(part);
+                    return Err(fault);
+                }
+            }
             self.symbol += 1;
         } else {
-            self.part = Some(part);
+            drop(self.part.replace(part));
         }
         Ok(())
     }
@@ -132,13 +140,14 @@ impl Auditor {
     fn report_line<W: Watch>(
         &mut self,
         config: &Config,
-        part: OpenPart,
+        mut part: OpenPart,
         text: &[u8],
         watch: &mut W,
     ) -> Result<Seen, WatchFault>
         requires at { IsAt config.now self.old }
         requires open { IsOpen config.now self.old.symbol part }
         requires more { part.told < length part.book.reports }
+        requires none { self.old.part ≡ None }
         requires heard { W.heard watch.old config.now self.old.symbol part.book.journal }
         requires clear { has_end text.now ≡ false }
         ensures sees { MatchResult result
@@ -146,13 +155,20 @@ impl Auditor {
             (λ _. StopsIn W.tells (with_part (at config.now self.old) part) text.now (W.output watch.old) (W.output watch.new)) }
         ensures cause { HasPutCause (W.faults watch.old) (W.faults watch.new) result }
     {
-        let line = part.report_text(self.alloc, config, self.symbol)?;
+        let line = match part.report_text(self.alloc, config, self.symbol) {
+            Ok(line) => line,
+            Err(_) => {
+                drop(part);
+                return Err(WatchFault::NoMemory);
+            }
+        };
         let _reports = part.book.front();
         if line.as_slice() == text {
-            let told = part.told + 1;
-            self.go_on(config, OpenPart { told, ..part }, watch)?;
+            part.told += 1;
+            self.go_on(config, part, watch)?;
             Ok(Seen::Same)
         } else {
+            drop(part);
             Ok(Seen::Differs {
                 expected: Some(Bytes(line)),
             })
@@ -171,6 +187,7 @@ impl Auditor {
         requires at { IsAt config.now self.old }
         requires open { IsOpen config.now self.old.symbol part }
         requires told { part.told ≡ length part.book.reports }
+        requires none { self.old.part ≡ None }
         requires heard { W.heard watch.old config.now self.old.symbol part.book.journal }
         requires clear { has_end text.now ≡ false }
         ensures sees { MatchResult result
@@ -179,15 +196,37 @@ impl Auditor {
         ensures cause { HasPutCause (W.faults watch.old) (W.faults watch.new) result }
     {
         runs_are_in_order();
-        let Some(event) = read_event(self.alloc, text, config, self.symbol)? else {
+        let read = match read_event(self.alloc, text, config, self.symbol) {
+            Ok(read) => read,
+            Err(_) => {
+                drop(part);
+                return Err(WatchFault::NoMemory);
+            }
+        };
+        let Some(event) = read else {
+            drop(part);
             return Ok(Seen::Differs { expected: None });
         };
         let from = part.told as usize;
-        if !part.work(config, self.symbol, event, steps)? {
+        let stands = match part.work(config, self.symbol, event, steps) {
+            Ok(stands) => stands,
+            Err(_) => {
+                drop(part);
+                return Err(WatchFault::NoMemory);
+            }
+        };
+        if !stands {
+            drop(part);
             return Ok(Seen::Differs { expected: None });
         }
         let made = &part.book.reports()[from..];
-        watch.on_event(config, self.symbol, &part.book, made)?;
+        match watch.on_event(config, self.symbol, &part.book, made) {
+            Ok(()) => {}
+            Err(fault) => {
+                drop(part);
+                return Err(fault);
+            }
+        }
         self.go_on(config, part, watch)?;
         Ok(Seen::Same)
     }

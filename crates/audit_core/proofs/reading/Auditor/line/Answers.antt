@@ -1,4 +1,4 @@
-use Rattle.std.proofs.Common.{◌≡◌, Option, Some, None, MatchResult, sym, subst}
+use Rattle.std.proofs.Common.{◌≡◌, Option, Some, None, MatchResult, subst}
 use Rattle.audit_core.specs.declared.part.OpenPart.{OpenPart}
 use Rattle.audit_core.specs.Ahead.{Sees, StopsIn}
 use Rattle.audit_core.specs.Progress.{journal_in}
@@ -45,3 +45,9 @@ returns-in-Some-2-clause-sees g c =
     c.event_line.new.self c.args.text.now (g.W.Watch.output c.args.watch.now) (g.W.Watch.output c.event_line.new.watch) seen)
     (λ _. StopsIn g.W.Watch.tells (record { config = c.args.config.now; symbol = c.args.self.now.symbol; part = p }) c.args.text.now
     (g.W.Watch.output c.args.watch.now) (g.W.Watch.output c.event_line.new.watch))) e c.event_line.ensures.sees
+
+pub report_line-requires-clause-none : goal.report_line-requires-clause-none
+report_line-requires-clause-none g c = c.take.ensures.after
+
+pub event_line-requires-clause-none : goal.event_line-requires-clause-none
+event_line-requires-clause-none g c = c.take.ensures.after
