@@ -1,9 +1,13 @@
 //! Connections over links in memory.
+ghost use Rattle.std.specs.Prelude.{◌<◌, length};
+ghost use Rattle.venue_words.specs.Conditions.{IsConfig};
+ghost use Rattle.venue_words.specs.Floors.{IsSetUpFor};
+
 use super::{
-    COPIES, COPIES_AGAIN, LOGON, LOGON_ANSWER, ORDER, ORDER_ANSWER, RESEND, START, config_of,
-    frames_of, trade,
+    FIRST_AGAIN, FIRST_COPY, LOGON, LOGON_ANSWER, ORDER, ORDER_ANSWER, RESEND, SECOND_AGAIN,
+    SECOND_COPY, config_of, desk_of, frame_of, frames_of, start, trade,
 };
-use drop_copy::{DropDesk, LinkEnd, serve_drop};
+use drop_copy::{LinkEnd, serve_drop};
 use io_edge::{LinkItem, MemClock, MemLink};
 use std::alloc::Global;
 use std::marker::Brand;
@@ -12,20 +16,41 @@ use std::sync::ledger::Blank;
 use std::test::Fail;
 use symbol_book::HashSeed;
 use venue_core::{Seated, make};
-use venue_words::{Bytes, NoMemory};
+use venue_words::{Config, Floor, Held, NoMemory};
+
+/// The piece that one frame is.
+fn piece(alloc: Global, text: &[u8]) -> Result<LinkItem, NoMemory> {
+    Ok(LinkItem::Piece(frame_of(alloc, text)?))
+}
 
 /// A peer who logs on, asks for both copies again, sends an order, and then no more.
 fn broker(alloc: Global, fails: Vec<u64>) -> Result<MemLink, NoMemory> {
     let mut items = Vec::new(alloc);
-    items.push(LinkItem::Piece(frames_of(alloc, &[LOGON])?))?;
-    items.push(LinkItem::Piece(frames_of(alloc, &[RESEND])?))?;
+    items.push(piece(alloc, LOGON)?)?;
+    items.push(piece(alloc, RESEND)?)?;
     items.push(LinkItem::Quiet)?;
-    items.push(LinkItem::Piece(frames_of(alloc, &[ORDER])?))?;
+    items.push(piece(alloc, ORDER)?)?;
     items.push(LinkItem::End)?;
     Ok(MemLink::new(alloc, items, fails))
 }
 
-/// Serves one connection behind a trade of A and B, with copies of A's reports.
+/// Serves one connection over a floor behind a trade of A and B.
+fn served_over<'a, R: Wait, V: Held>(
+    alloc: Global,
+    config: &Config,
+    floor: &mut Seated<'a, R, V>,
+    link: &mut MemLink,
+) -> Result<LinkEnd, NoMemory>
+    requires config { IsConfig config.now }
+    requires setup { IsSetUpFor config.now (⟦<Seated<'a, R, V> as Floor>⟧.mark floor.old).setup }
+    requires members { 0 < length config.now.members }
+{
+    let mut desk = desk_of(alloc, config)?;
+    let mut clock = MemClock::new(vec![in alloc; start()]?);
+    Ok(serve_drop(alloc, config, floor, &mut desk, link, &mut clock))
+}
+
+/// Serves one connection over a venue for many threads.
 fn served<R: Wait>(rt: &R, alloc: Global, link: &mut MemLink) -> Result<LinkEnd, NoMemory> {
     let config = config_of(alloc)?;
     let (venue, seats) = make(alloc, HashSeed::fixed(), &config)?;
@@ -35,26 +60,18 @@ fn served<R: Wait>(rt: &R, alloc: Global, link: &mut MemLink) -> Result<LinkEnd,
         seats,
     };
     trade::<_, Brand>(alloc, &mut floor, Blank::new(1))?;
-    let name = Bytes::copy_of(alloc, b"DC")?;
-    let mut desk = DropDesk::new(alloc, name, vec![in alloc; 0]?, &config)?;
-    let mut clock = MemClock::new(vec![in alloc; START]?);
-    Ok(serve_drop(alloc, &config, &mut floor, &mut desk, link, &mut clock))
+    served_over(alloc, &config, &mut floor, link)
 }
 
 /// All that is put.
-fn answers(alloc: Global) -> Result<Vec<u8>, NoMemory> {
-    frames_of(
-        alloc,
-        &[
-            LOGON_ANSWER,
-            COPIES[0],
-            COPIES[1],
-            COPIES_AGAIN[0],
-            COPIES_AGAIN[1],
-            ORDER_ANSWER,
-        ],
-    )
-}
+const ANSWERS: &[&[u8]] = &[
+    LOGON_ANSWER,
+    FIRST_COPY,
+    SECOND_COPY,
+    FIRST_AGAIN,
+    SECOND_AGAIN,
+    ORDER_ANSWER,
+];
 
 #[test]
 fn replies_and_then_copies_are_put(rt: HostRuntime) -> Result<(), Fail> {
@@ -62,14 +79,14 @@ fn replies_and_then_copies_are_put(rt: HostRuntime) -> Result<(), Fail> {
     let mut link = broker(alloc, Vec::new(alloc))?;
     let end = served(&rt, alloc, &mut link)?;
     assert_eq!(rt; end, LinkEnd::PeerEnd);
-    assert!(rt; link.bytes() == answers(alloc)?.as_slice());
+    assert!(rt; link.bytes() == frames_of(alloc, ANSWERS)?.as_slice());
     Ok(())
 }
 
 #[test]
 fn each_failing_call_leaves_a_prefix(rt: HostRuntime) -> Result<(), Fail> {
     let alloc = rt.alloc();
-    let whole = answers(alloc)?;
+    let whole = frames_of(alloc, ANSWERS)?;
     // Five pulls and six puts.
     for number in 1..12u64 {
         let mut link = broker(alloc, vec![in alloc; number]?)?;
