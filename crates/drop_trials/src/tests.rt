@@ -1,7 +1,7 @@
 //! What all trials share: a config, a trade of its two members, and frames.
 ghost use Rattle.std.specs.Prelude.{◌≡◌, ◌<◌, ◌≤◌, ◌^◌, true, length, IfOk};
 ghost use Rattle.drop_copy.specs.Desks.{AreConfigured};
-ghost use Rattle.venue_words.specs.Conditions.{IsConfig, fits_limits};
+ghost use Rattle.venue_words.specs.Conditions.{IsConfig, fits_id, fits_limits};
 ghost use Rattle.venue_words.specs.Floors.{Setup, is_configured};
 
 mod connections;
@@ -147,7 +147,8 @@ fn submit<F: Floor, L: Ledger>(
 
 /// A's or B's order of 100 shares, to buy or to sell.
 fn order(alloc: Global, member: u32, id: &[u8], side: u8) -> Result<Command, NoMemory>
-    requires { member < 2 }
+    requires member { member < 2 }
+    requires id { fits_id id.now ≡ true }
     ensures configured { (setup : Setup) → 2 ≤ setup.members → IfOk result (λ order. is_configured setup order ≡ true) }
     ensures limits { IfOk result (λ order. fits_limits order ≡ true) }
 {
@@ -171,6 +172,7 @@ fn submit_order<F: Floor, L: Ledger>(
     requires symbol { 0 < length (F.mark floor.old).setup.limits }
     requires members { 2 ≤ (F.mark floor.old).setup.members }
     requires member { member < 2 }
+    requires id { fits_id id.now ≡ true }
     ensures mark { F.mark floor.new ≡ F.mark floor.old }
 {
     let order = order(alloc, member, id, side)?;

@@ -9,7 +9,7 @@ use super::{
     SECOND_COPY, config_of, desk_of, frames_of, start, trade,
 };
 use drop_copy::DropDesk;
-use std::alloc::Global;
+use std::alloc::{AllocError, Global};
 use std::marker::Brand;
 use std::sync::ledger::Blank;
 use std::test::Fail;
@@ -17,11 +17,16 @@ use symbol_book::HashSeed;
 use venue_core::plain;
 use venue_words::{Bytes, Config, Floor, NoMemory};
 
+/// Appends the bytes of a frame.
+fn push_frame(bytes: &mut Vec<u8>, frame: &Bytes) -> Result<(), AllocError> {
+    bytes.extend_from_slice(frame.as_slice())
+}
+
 /// The bytes of frames, one behind the other.
 fn joined(alloc: Global, frames: &[Bytes]) -> Result<Vec<u8>, NoMemory> {
     let mut bytes = Vec::new(alloc);
     for frame in frames {
-        bytes.extend_from_slice(frame.as_slice())?;
+        push_frame(&mut bytes, frame)?;
     }
     Ok(bytes)
 }
