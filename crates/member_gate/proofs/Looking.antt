@@ -1,6 +1,7 @@
 -- Symbol by symbol a member's reports are gathered.
-use Rattle.std.proofs.Common.{◌≡◌, ◌≢◌, ℕ, ◌+◌, ◌-◌, ◌<◌, ◌≤◌, max, List, [], ◌∷◌, ◌++◌, length, take, drop, get_or, refl, sym, ◌∙◌, ap, subst, arith, append_assoc, length-append}
+use Rattle.std.proofs.Common.{◌≡◌, ◌≢◌, ◌⊎◌, inl, inr, ℕ, ◌+◌, ◌-◌, ◌<◌, ◌≤◌, max, List, [], ◌∷◌, ◌++◌, length, take, drop, get_or, refl, sym, ◌∙◌, ap, subst, arith, append_assoc, length-append}
 use Rattle.std.proofs.lemmas.List.{append-nil, take_more, get_or_append_left, get_or-append_right, get_or-drop, length-take-le}
+use Rattle.std.proofs.lemmas.Bool.{cases_lt}
 use Rattle.std.proofs.lemmas.Option.{unwrap_or-slice_get}
 use Rattle.std.proofs.Math.Seq.{get_or-append_seam, take-length}
 use mathlib.Core.Logic.{dite}
@@ -121,3 +122,30 @@ module _ {F : Type 0} (at : F → ℕ → SymbolView) (config : Config) (member 
 
 abbrev pub for_news : List ℕ → ℕ → SymbolView → SymbolView → Type 0
 for_news cursors symbol before after = IsAskedForNews (cursor_at cursors symbol) before after
+
+module _ {F : Type 0} (at : F → ℕ → SymbolView) (cursors : List ℕ) where
+  stays_at : (before now : F) (count symbol : ℕ) → ((other : ℕ) → other < count → for_news cursors other (at before other) (at now other))
+      → ((other : ℕ) → count ≤ other → at now other ≡ at before other) → length (at before symbol).reports ≤ cursor_at cursors symbol
+      → (symbol < count) ⊎ (count ≤ symbol) → at now symbol ≡ at before symbol
+  stays_at before now count symbol each ahead h (inl l) = (each symbol l).unasked h
+  stays_at before now count symbol each ahead h (inr l) = ahead symbol l
+
+  -- a symbol with nothing past its cursor is as it was
+  pub stays : (before now : F) (count : ℕ) → ((other : ℕ) → other < count → for_news cursors other (at before other) (at now other))
+      → ((other : ℕ) → count ≤ other → at now other ≡ at before other)
+      → (symbol : ℕ) → length (at before symbol).reports ≤ cursor_at cursors symbol → at now symbol ≡ at before symbol
+  stays before now count each ahead symbol h = stays_at before now count symbol each ahead h (cases_lt symbol count)
+
+  -- and still so behind one more look
+  pub stays_on : (before now next : F) (count from : ℕ) → ((other : ℕ) → other < count → for_news cursors other (at before other) (at now other))
+      → ((other : ℕ) → count ≤ other → at now other ≡ at before other)
+      → ((other : ℕ) → other ≢ count → at next other ≡ at now other) → from ≡ cursor_at cursors count
+      → (length (at now count).reports ≤ from → at next count ≡ at now count)
+      → (symbol : ℕ) → length (at before symbol).reports ≤ cursor_at cursors symbol → at next symbol ≡ at before symbol
+  stays_on before now next count from each ahead others e unasked symbol h =
+      let here = ahead count (omega arith) in
+      dite (ℕ_discrete symbol count)
+      (λ is. subst (λ (k : ℕ). at next k ≡ at before k) (sym is)
+      (unasked (subst (λ (v : SymbolView). length v.reports ≤ from) (sym here) (subst (λ (k : ℕ). length (at before count).reports ≤ k) (sym e)
+      (subst (λ (k : ℕ). length (at before k).reports ≤ cursor_at cursors k) is h))) ∙ here))
+      (λ not. others symbol not ∙ stays before now count each ahead symbol h)

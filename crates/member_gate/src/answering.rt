@@ -1,11 +1,12 @@
 //! What a message that the session hands out gets.
-ghost use Rattle.std.specs.Prelude.{◌≡◌, ◌+◌, ◌<◌, ◌∷◌, [], length, IfOk, OnOk, OnErr, IfErr};
+ghost use Rattle.std.specs.Prelude.{◌≡◌, ◌+◌, ◌<◌, ◌∷◌, [], length, Err, IfOk, OnOk, OnErr, IfErr, IsSome};
 ghost use Rattle.std.specs.Option.{option_to_list};
 ghost use Rattle.venue_words.specs.Conditions.{IsConfig};
 ghost use Rattle.venue_words.specs.Floors.{IsSetUpFor};
 ghost use Rattle.session_core.specs.Lookup.{text_in};
 ghost use Rattle.session_core.specs.Machine.{IsUp, on_send_one};
-ghost use Rattle.member_gate.specs.Answering.{answer, answer_stray, business_body, name_at};
+ghost use Rattle.member_gate.specs.Answering.{answer, answer_to, answer_stray, business_body, name_at};
+ghost use Rattle.member_gate.specs.declared.refusal.DeskRefusal.TheVariants.{NoMemory as no_memory};
 ghost use Rattle.member_gate.specs.Submitting.{TookAll, TookNone};
 
 use crate::business::{BUSINESS_REJECT, business_body};
@@ -49,20 +50,51 @@ fn answer_stray(
     origin: Origin<'_>,
     request: &Request<'_>,
     report: &Report,
-) -> Result<Bytes, NoMemory>
+) -> Result<Option<Bytes>, DeskRefusal>
     requires { IsUp session.old }
     ensures session { OnOk result (session.new
         ≡ (answer_stray (name_at origin.entry.config.now.members origin.entry.member) origin.entry.moment
         session.old request.now report.now).session) }
-    ensures reply { IfOk result (λ frame. frame ∷ []
+    ensures reply { IfOk result (λ reply. option_to_list reply
         ≡ (answer_stray (name_at origin.entry.config.now.members origin.entry.member) origin.entry.moment
         session.old request.now report.now).replies) }
+    ensures some { IfOk result IsSome }
     ensures err { OnErr result (session.new ≡ session.old) }
+    ensures none { IfErr result (λ refusal. refusal ≡ no_memory) }
 {
     let symbol = text_in(SYMBOL, request.fields.as_slice());
     let name = name_at(origin.config.members.as_slice(), origin.member);
     let body = body(alloc, report, symbol, name)?;
-    session.send(kind(report), &body, origin.moment)
+    Ok(Some(session.send(kind(report), &body, origin.moment)?))
+}
+
+/// Answers a message that is refused.
+fn answer_refused(
+    alloc: Global,
+    session: &mut Session,
+    origin: Origin<'_>,
+    request: &Request<'_>,
+    refusal: Refusal,
+) -> Result<Option<Bytes>, DeskRefusal>
+    requires { IsUp session.old }
+    ensures session { OnOk result (session.new
+        ≡ (answer_to (name_at origin.entry.config.now.members origin.entry.member) origin.entry.moment
+        session.old request.now (Err refusal)).session) }
+    ensures reply { IfOk result (λ reply. option_to_list reply
+        ≡ (answer_to (name_at origin.entry.config.now.members origin.entry.member) origin.entry.moment
+        session.old request.now (Err refusal)).replies) }
+    ensures some { IfOk result IsSome }
+    ensures err { OnErr result (session.new ≡ session.old) }
+    ensures none { IfErr result (λ refusal. refusal ≡ no_memory) }
+{
+    match refusal {
+        Refusal::Reject { reason, tag } => {
+            let moment = origin.moment;
+            Ok(Some(session.reject(request.number, request.kind, tag, reason, moment)?))
+        }
+        Refusal::Business => { Ok(Some(answer_business(alloc, session, request, origin.moment)?)) }
+        Refusal::NoMemory => Err(DeskRefusal::NoMemory),
+    }
 }
 
 /// Works a message that the session handed out: it is answered at once, or, where no answer comes, a command goes to a
@@ -98,19 +130,12 @@ pub fn answer<F: Floor, L: Ledger>(
 {
     match read_order(alloc, request, origin.member, origin.config, origin.moment) {
         Ok(Decoded::Book { symbol, command }) => {
-            submit(floor, origin, symbol, &command, steps)?;
-            Ok(None)
+            match submit(floor, origin, symbol, &command, steps) {
+                Ok(()) => Ok(None),
+                Err(refusal) => Err(refusal),
+            }
         }
-        Ok(Decoded::Stray { report }) => {
-            Ok(Some(answer_stray(alloc, session, origin, request, &report)?))
-        }
-        Err(Refusal::Reject { reason, tag }) => {
-            let moment = origin.moment;
-            Ok(Some(session.reject(request.number, request.kind, tag, reason, moment)?))
-        }
-        Err(Refusal::Business) => {
-            Ok(Some(answer_business(alloc, session, request, origin.moment)?))
-        }
-        Err(Refusal::NoMemory) => Err(DeskRefusal::NoMemory),
+        Ok(Decoded::Stray { report }) => answer_stray(alloc, session, origin, request, &report),
+        Err(refusal) => answer_refused(alloc, session, origin, request, refusal),
     }
 }

@@ -3,7 +3,7 @@ use Rattle.std.proofs.Common.{◌≡◌, ℕ, ◌<◌, ◌≤◌, max, List, ◌
 use Rattle.venue_words.specs.Floors.{SymbolView, TurnsRose}
 use Rattle.member_gate.specs.Answering.{name_at}
 use Rattle.member_gate.specs.Reporting.{cursor_at, messages_at, IsAskedForNews}
-use Rattle.member_gate.proofs.Looking.{Looked, for_news, looked_more, moved_on}
+use Rattle.member_gate.proofs.Looking.{Looked, for_news, looked_more, waited_on, stays, stays_on, moved_on, all_messages}
 use Rattle.member_gate.proofs.reporting.look_past.Goals as goal
 
 -- the symbol was asked for where it has news
@@ -41,3 +41,80 @@ returns-clause-fronts g c =
     let looked = subst (λ (k : ℕ). Looked g.F.Floor.at config c.args.member c.args.cursors.now (for_news c.args.cursors.now) c.args.floor.now k floor c.loop-symbol.messages.items c.loop-symbol.fronts.items) all c.loop-symbol.invariant.looked in
     moved_on g.F.Floor.at config c.args.member c.args.cursors.now (for_news c.args.cursors.now) c.args.floor.now floor c.loop-symbol.messages.items c.loop-symbol.fronts.items _ looked
     (c.in_ok-extend_from_slice.ensures.items ∙ ap (λ (xs : List ℕ). c.loop-symbol.fronts.items ++ xs) (c.behind.ensures ∙ ap (λ (k : ℕ). drop k c.args.cursors.now) c.len-count.ensures))
+
+-- what the floor shows behind a look that failed, or behind a cursor that found no room
+
+pub returns-in_err-front-clause-waited : goal.returns-in_err-front-clause-waited
+returns-in_err-front-clause-waited g c =
+    let looked = c.loop-symbol.invariant.looked in
+    waited_on g.F.Floor.at c.args.config.now c.args.member c.args.cursors.now (for_news c.args.cursors.now) c.args.floor.now c.loop-symbol.floor c.look_where_past.new.floor c.loop-symbol.symbol
+    looked.waited looked.ahead c.look_where_past.ensures.others c.look_where_past.ensures.waited
+
+pub returns-in_err-front-clause-others : goal.returns-in_err-front-clause-others
+returns-in_err-front-clause-others g c = λ symbol h.
+    c.look_where_past.ensures.others symbol (λ e. absurd (omega arith)) ∙ c.loop-symbol.invariant.looked.ahead symbol (omega arith)
+
+pub returns-in_err-front-clause-mark : goal.returns-in_err-front-clause-mark
+returns-in_err-front-clause-mark g c = c.look_where_past.ensures.mark ∙ c.loop-symbol.invariant.mark
+
+pub returns-in_err-push-clause-waited : goal.returns-in_err-push-clause-waited
+returns-in_err-push-clause-waited g c =
+    let looked = c.loop-symbol.invariant.looked in
+    waited_on g.F.Floor.at c.args.config.now c.args.member c.args.cursors.now (for_news c.args.cursors.now) c.args.floor.now c.loop-symbol.floor c.look_where_past.new.floor c.loop-symbol.symbol
+    looked.waited looked.ahead c.look_where_past.ensures.others c.look_where_past.ensures.waited
+
+pub returns-in_err-push-clause-others : goal.returns-in_err-push-clause-others
+returns-in_err-push-clause-others g c = λ symbol h.
+    c.look_where_past.ensures.others symbol (λ e. absurd (omega arith)) ∙ c.loop-symbol.invariant.looked.ahead symbol (omega arith)
+
+pub returns-in_err-push-clause-mark : goal.returns-in_err-push-clause-mark
+returns-in_err-push-clause-mark g c = c.look_where_past.ensures.mark ∙ c.loop-symbol.invariant.mark
+
+pub returns-in_err-extend_from_slice-clause-waited : goal.returns-in_err-extend_from_slice-clause-waited
+returns-in_err-extend_from_slice-clause-waited g c = c.loop-symbol.invariant.looked.waited
+
+pub returns-in_err-extend_from_slice-clause-others : goal.returns-in_err-extend_from_slice-clause-others
+returns-in_err-extend_from_slice-clause-others g c = λ symbol h. c.loop-symbol.invariant.looked.ahead symbol (omega arith)
+
+-- behind the last symbol
+
+pub returns-clause-waited : goal.returns-clause-waited
+returns-clause-waited g c = c.loop-symbol.invariant.looked.waited
+
+pub returns-clause-others : goal.returns-clause-others
+returns-clause-others g c = λ symbol h. c.loop-symbol.invariant.looked.ahead symbol (omega arith)
+
+pub returns-clause-turns : goal.returns-clause-turns
+returns-clause-turns g c = λ symbol h past. (c.loop-symbol.invariant.looked.each symbol (omega arith)).rose past
+
+pub returns-clause-messages : goal.returns-clause-messages
+returns-clause-messages g c =
+    let config = c.args.config.now in
+    let floor = c.loop-symbol.floor in
+    let all : c.loop-symbol.symbol ≡ length config.symbols = omega arith in
+    let looked = subst (λ (k : ℕ). Looked g.F.Floor.at config c.args.member c.args.cursors.now (for_news c.args.cursors.now) c.args.floor.now k floor c.loop-symbol.messages.items c.loop-symbol.fronts.items) all c.loop-symbol.invariant.looked in
+    all_messages g.F.Floor.at config c.args.member c.args.cursors.now (for_news c.args.cursors.now) c.args.floor.now floor c.loop-symbol.messages.items c.loop-symbol.fronts.items looked
+
+-- a symbol with nothing past its cursor stays
+
+pub returns-in_err-front-clause-unasked : goal.returns-in_err-front-clause-unasked
+returns-in_err-front-clause-unasked g c =
+    let looked = c.loop-symbol.invariant.looked in
+    stays_on g.F.Floor.at c.args.cursors.now c.args.floor.now c.loop-symbol.floor c.look_where_past.new.floor c.loop-symbol.symbol c.cursor_at-from.result
+    looked.each looked.ahead c.look_where_past.ensures.others c.cursor_at-from.ensures c.look_where_past.ensures.unasked
+
+pub returns-in_err-push-clause-unasked : goal.returns-in_err-push-clause-unasked
+returns-in_err-push-clause-unasked g c =
+    let looked = c.loop-symbol.invariant.looked in
+    stays_on g.F.Floor.at c.args.cursors.now c.args.floor.now c.loop-symbol.floor c.look_where_past.new.floor c.loop-symbol.symbol c.cursor_at-from.result
+    looked.each looked.ahead c.look_where_past.ensures.others c.cursor_at-from.ensures c.look_where_past.ensures.unasked
+
+pub returns-in_err-extend_from_slice-clause-unasked : goal.returns-in_err-extend_from_slice-clause-unasked
+returns-in_err-extend_from_slice-clause-unasked g c =
+    let looked = c.loop-symbol.invariant.looked in
+    stays g.F.Floor.at c.args.cursors.now c.args.floor.now c.loop-symbol.floor c.loop-symbol.symbol looked.each looked.ahead
+
+pub returns-clause-unasked : goal.returns-clause-unasked
+returns-clause-unasked g c =
+    let looked = c.loop-symbol.invariant.looked in
+    stays g.F.Floor.at c.args.cursors.now c.args.floor.now c.loop-symbol.floor c.loop-symbol.symbol looked.each looked.ahead
