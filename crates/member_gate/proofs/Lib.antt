@@ -3,6 +3,7 @@ pub mod Fresh
 pub mod Joining
 pub mod Looking
 pub mod Over
+pub mod Pulling
 pub mod Sending
 pub mod Standing
 pub mod Taking
