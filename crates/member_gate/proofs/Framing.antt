@@ -1,5 +1,5 @@
 -- What the framer's answers say, and how the replies of a frame are added.
-use Rattle.std.proofs.Common.{◌≡◌, ℕ, ◌+◌, ◌<◌, ◌≤◌, ℤ, List, [], ◌∷◌, ◌++◌, length, drop, Some, sym, ◌∙◌, ap, arith, append_assoc, length-drop}
+use Rattle.std.proofs.Common.{◌≡◌, ℕ, ◌+◌, ◌<◌, ◌≤◌, ℤ, List, [], ◌∷◌, ◌++◌, length, drop, inr, Some, sym, ◌∙◌, ap, arith, append_assoc, length-drop}
 use Rattle.std.specs.Option.{option_to_list}
 use Rattle.venue_words.specs.declared.limits.TheConstants.{MAX_FRAME_BYTES}
 use Rattle.fix_frames.specs.FoundLaws.{whole_found}
@@ -8,9 +8,9 @@ use Rattle.fix_frames.specs.Streams.{Stream, HasGiven}
 use Rattle.venue_words.specs.declared.config.Config.{Config}
 use Rattle.session_core.specs.declared.message.Request.{Request}
 use Rattle.session_core.specs.declared.turn.Turn.{Turn}
-use Rattle.session_core.specs.Machine.{Machine, Outcome, on_frame}
-use Rattle.member_gate.specs.Answering.{answer}
-use Rattle.member_gate.specs.Working.{handed_out, work_of_frame}
+use Rattle.session_core.specs.Machine.{Machine, Outcome, on_frame, given_up}
+use Rattle.member_gate.specs.Answering.{Work, answer}
+use Rattle.member_gate.specs.Working.{handed_out, work_of_frame, GaveUp}
 
 -- a frame that was given is not too long
 pub given_short : (old new : Stream) (frame : List ℕ) → HasGiven old new frame → length frame ≤ MAX_FRAME_BYTES
@@ -41,3 +41,33 @@ reply_added config member moment read session next frame turn request reply sent
     ∙ append_assoc sent outcome.turn.replies (reply ∷ [])
     ∙ ap (λ (x : List (List ℕ)). sent ++ (outcome.turn.replies ++ x)) reply_is
     ∙ ap (λ x. sent ++ (outcome.turn.replies ++ (handed_out config member moment outcome.machine x).replies)) (sym asked_is)
+
+-- what is done with a message that was handed out
+
+handed : (config : Config) (member : ℕ) (moment read : ℤ) (session next : Machine) (frame : List ℕ) (turn : Turn) (request : Request)
+    → read ≡ moment → turn ≡ (on_frame session frame read).turn → next ≡ (on_frame session frame read).machine → turn.request ≡ Some request
+    → handed_out config member moment (on_frame session frame moment).machine (on_frame session frame moment).turn.request ≡ answer config member moment next request
+handed config member moment read session next frame turn request e t m asked =
+    let now : on_frame session frame read ≡ on_frame session frame moment = ap (on_frame session frame) e in
+    let asked_is : (on_frame session frame moment).turn.request ≡ Some request = ap (λ (x : Turn). x.request) (sym (t ∙ ap (λ (x : Outcome). x.turn) now)) ∙ asked in
+    ap (handed_out config member moment (on_frame session frame moment).machine) asked_is
+    ∙ ap (λ (x : Machine). answer config member moment x request) (sym (m ∙ ap (λ (x : Outcome). x.machine) now))
+
+pub frame_session : (config : Config) (member : ℕ) (moment read : ℤ) (session next : Machine) (frame : List ℕ) (turn : Turn) (request : Request)
+    → read ≡ moment → turn ≡ (on_frame session frame read).turn → next ≡ (on_frame session frame read).machine → turn.request ≡ Some request
+    → (work_of_frame config member moment session frame).session ≡ (answer config member moment next request).session
+unfolding work_of_frame
+frame_session config member moment read session next frame turn request e t m asked =
+    ap (λ (w : Work). w.session) (handed config member moment read session next frame turn request e t m asked)
+
+pub frame_submits : (config : Config) (member : ℕ) (moment read : ℤ) (session next : Machine) (frame : List ℕ) (turn : Turn) (request : Request)
+    → read ≡ moment → turn ≡ (on_frame session frame read).turn → next ≡ (on_frame session frame read).machine → turn.request ≡ Some request
+    → (work_of_frame config member moment session frame).submissions ≡ (answer config member moment next request).submissions
+unfolding work_of_frame
+frame_submits config member moment read session next frame turn request e t m asked =
+    ap (λ (w : Work). w.submissions) (handed config member moment read session next frame turn request e t m asked)
+
+-- a session that took a frame gave up behind it
+pub gave_up_behind : (moment read : ℤ) (session next : Machine) (frame : List ℕ) → read ≡ moment → next ≡ (on_frame session frame read).machine
+    → GaveUp moment session (frame ∷ []) (given_up next)
+gave_up_behind moment read session next frame e m = inr (ap given_up m ∙ ap (λ (r : ℤ). given_up (on_frame session frame r).machine) e)

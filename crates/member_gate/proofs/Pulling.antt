@@ -1,5 +1,5 @@
 -- What a session that is up is sent.
-use Rattle.std.proofs.Common.{◌≡◌, ℤ, List, true, refl, ap, ◌∙◌}
+use Rattle.std.proofs.Common.{◌≡◌, ℤ, List, refl, ap, ◌∙◌}
 use Rattle.std.specs.Prelude.{ℕ}
 use Rattle.session_core.specs.declared.message.Message.{Message}
 use Rattle.session_core.specs.Machine.{Machine, Outcome, IsUp, on_send}

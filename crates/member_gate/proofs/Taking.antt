@@ -1,5 +1,5 @@
 -- How what a floor took is joined, and what a refusal leaves of it.
-use Rattle.std.proofs.Common.{◌≡◌, ◌≢◌, ℕ, ◌≤◌, ℤ, List, [], ◌∷◌, ◌++◌, Option, Some, None, refl, sym, subst, arith}
+use Rattle.std.proofs.Common.{◌≡◌, ◌≢◌, ℕ, ◌+◌, length, ◌≤◌, ℤ, List, [], ◌∷◌, ◌++◌, Option, Some, None, refl, sym, subst, arith}
 use Rattle.std.specs.Prelude.{IfSome, slice_index}
 use Rattle.std.proofs.lemmas.List.{append-nil}
 use Rattle.venue_words.specs.declared.command.Event.{Event}
@@ -89,3 +89,17 @@ module _ {F : Type 0} (at : F → ℕ → SymbolView) (step_limit : FloorMark �
         full = tt;
       } in
       none_of_more NoMemory [] left x x none
+
+module _ {F : Type 0} (at : F → ℕ → SymbolView) (step_limit : FloorMark → ℕ → List Event → Event → Option ℕ) (mark : FloorMark) (feed : ℕ) (moment : ℤ) where
+  no_steps_at : (left : List Submission) (floor : F × ℕ) → TookNoSteps at step_limit mark feed moment left floor floor
+  no_steps_at [] floor = refl
+  no_steps_at (one ∷ others) floor = if_some (floor.1 ≡ floor.1) (step_limit mark one.symbol (at floor.0 one.symbol).journal (event (length (at floor.0 one.symbol).journal + 1) feed moment one.command)) refl
+
+  -- where memory was wanted and the floor is as it was, no command was taken
+  pub none_taken : (left : List Submission) (floor : F × ℕ) → TookNone at step_limit mark feed moment NoMemory left floor floor
+  none_taken left floor = record {
+    next = λ symbol h. waited_self (at floor.0 symbol);
+    others = λ symbol h. refl;
+    steps = no_steps_at left floor;
+    full = tt;
+  }

@@ -1,7 +1,6 @@
 -- A session that is up is sent what was looked up.
-use Rattle.std.proofs.Common.{◌≡◌, ◌∙◌, ℕ, ℤ, List, sym, ap, subst, refl, w64, to_z, of_z, length, ◌<◌, rules}
-use Rattle.session_core.specs.declared.message.Message.{Message}
-use Rattle.session_core.specs.Machine.{Machine, IsUp}
+use Rattle.std.proofs.Common.{◌≡◌, ◌∙◌, ℕ, List, sym, ap, subst, refl, w64, to_z, of_z, length, ◌<◌, rules}
+use Rattle.session_core.specs.Machine.{IsUp}
 use Rattle.session_core.specs.Runs.{send_if_up}
 use Rattle.member_gate.specs.Desks.{DeskView}
 use Rattle.member_gate.specs.Reporting.{cursor_at, messages_past, MovedOn}
