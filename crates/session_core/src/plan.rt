@@ -53,7 +53,9 @@ pub fn says(state: State, messages: Vec<Message>) -> Plan
 pub fn says_one(alloc: Global, state: State, message: Message) -> Result<Plan, NoMemory>
     ensures { IfOk result (λ p. p ≡ says state (message ∷ [])) }
 {
-    Ok(says(state, vec![in alloc; message]?))
+    let mut messages = Vec::with_capacity(alloc, 1)?;
+    messages.push_reserved(message);
+    Ok(says(state, messages))
 }
 
 /// A message is sent behind all that a plan sends.
