@@ -55,8 +55,15 @@ fn run_files<R: Threads + Wait + Sync, P: Pace + Sync, K: Sink>(
         Err(fault) => return Ended::new(alloc, refused_at(0, fault)),
     };
     match work_texts(rt, alloc, &config, feeds, pace, out) {
-        Ok(()) => Ended::new(alloc, FeedsStatus::Done),
-        Err(status) => named(alloc, &config, status),
+        Ok(()) => {
+            drop(config);
+            Ended::new(alloc, FeedsStatus::Done)
+        }
+        Err(status) => {
+            let ended = named(alloc, &config, status);
+            drop(config);
+            ended
+        }
     }
 }
 

@@ -162,12 +162,28 @@ fn list_counted<L: Ledger>(
         named: Vec::new(alloc),
         replies: Vec::new(alloc),
     };
-    let fault = lister.lines(text, &mut steps)?;
-    let (listed, counts) = lister.floor.into_lists();
+    // The worker is let go by a call: one that ends by itself is proved field by field at each end.
+    let fault = match lister.lines(text, &mut steps) {
+        Ok(fault) => fault,
+        Err(_) => {
+            drop(lister);
+            return Err(NoMemory);
+        }
+    };
+    let Lister {
+        worker,
+        floor,
+        named,
+        replies,
+        ..
+    } = lister;
+    drop(worker);
+    drop(replies);
+    let (listed, counts) = floor.into_lists();
     Ok(FeedList {
         commands: asked(alloc, listed)?,
         counts,
-        named: lister.named,
+        named,
         fault,
     })
 }

@@ -70,6 +70,11 @@ pub fn read_files<H: Shelf>(
 {
     let config = config_of(read_config(alloc, shelf, plan.config, MAX_CONFIG_BYTES))?;
     let already = already_in(&config);
-    let feeds = read_feeds(alloc, shelf, plan.feeds, already)?;
-    Ok(RunFiles { config, feeds })
+    match read_feeds(alloc, shelf, plan.feeds, already) {
+        Ok(feeds) => Ok(RunFiles { config, feeds }),
+        Err(refusal) => {
+            drop(config);
+            Err(refusal)
+        }
+    }
 }

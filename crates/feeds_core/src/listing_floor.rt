@@ -100,6 +100,7 @@ impl Floor for ListingFloor {
             return Err(FloorRefusal::NoMemory);
         };
         if self.listed.reserve(1).is_err() {
+            drop(command);
             return Err(FloorRefusal::NoMemory);
         }
         self.counts[symbol as usize] = number;

@@ -37,7 +37,13 @@ pub fn look_at(
     ensures memory { read ≡ Err memory → result ≡ Err memory }
 {
     if let Ok(line) = &read {
-        note(named, line, place.number)?;
+        match note(named, line, place.number) {
+            Ok(()) => {}
+            Err(_) => {
+                drop(read);
+                return Err(LineFault::NoMemory);
+            }
+        }
     }
     match weigh(read, 1, MAX_CONFIG_BYTES < place.bytes) {
         Ok(line) => Ok(line),
