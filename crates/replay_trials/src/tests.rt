@@ -85,62 +85,127 @@ pub struct Worked {
     pub status: u8,
 }
 
-/// Plays each script in pieces of one byte and in large ones.
+/// Plays a script in pieces of one byte and in large ones.
+fn check_played(
+    rt: &impl Abort,
+    alloc: Global,
+    name: &str,
+    script: &str,
+    transcript: &str,
+    told: &str,
+    code: u8,
+) -> Result<(), Fail> {
+    check_pieces(rt, alloc, name, script, 1, transcript, told, code)?;
+    check_pieces(rt, alloc, name, script, 4096, transcript, told, code)
+}
+
+/// Plays a script in pieces.
+fn check_pieces(
+    rt: &impl Abort,
+    alloc: Global,
+    name: &str,
+    script: &str,
+    piece: usize,
+    transcript: &str,
+    told: &str,
+    code: u8,
+) -> Result<(), Fail>
+    requires { 0 < piece }
+{
+    let (status, out, err) = played(alloc, script, piece)?;
+    assert_eq!(rt; out.bytes(), transcript.as_bytes(), "{name}");
+    assert_eq!(rt; err.bytes(), told.as_bytes(), "{name}");
+    assert_eq!(rt; exit_code(status), code, "{name}");
+    Ok(())
+}
+
+/// Plays each script.
 fn check_all(rt: &impl Abort, alloc: Global, worked: &[Worked]) -> Result<(), Fail> {
     for one in worked {
-        for piece in [1usize, 4096] {
-            let (status, out, err) = played(alloc, one.script, piece)?;
-            assert_eq!(rt; out.bytes(), one.transcript.as_bytes(), "{}", one.name);
-            assert_eq!(rt; err.bytes(), one.told.as_bytes(), "{}", one.name);
-            assert_eq!(rt; exit_code(status), one.status, "{}", one.name);
-        }
+        check_played(
+            rt,
+            alloc,
+            one.name,
+            one.script,
+            one.transcript,
+            one.told,
+            one.status,
+        )?;
     }
+    Ok(())
+}
+
+/// A header, how its run ends, and what is told.
+type HeaderCase = (&'static str, Status, &'static str);
+
+const HEADERS: &[HeaderCase] = &[
+    (HEADER, Status::Done, ""),
+    ("PEGV 1\nBEGIN 20240102-14:30:00.000\n", Status::Done, ""),
+    (
+        "PEGV 2\nSYMBOL X 9 0.05\nBEGIN 20240102-14:30:00.000\n",
+        Status::Done,
+        "",
+    ),
+    (
+        "",
+        Status::BadLine {
+            line: 1,
+            cause: LineCause::NoEnd,
+        },
+        "pegreplay: line 1: NoEnd\n",
+    ),
+    (
+        "PEGV 3\n",
+        Status::BadLine {
+            line: 1,
+            cause: LineCause::BadHeader,
+        },
+        "pegreplay: line 1: BadHeader\n",
+    ),
+    (
+        "PEGV 1\nMEMBER A\nMEMBER A\n",
+        Status::BadLine {
+            line: 3,
+            cause: LineCause::DoubleName,
+        },
+        "pegreplay: line 3: DoubleName\n",
+    ),
+    (
+        "PEGV 1\nSYMBOL X 0\n",
+        Status::BadLine {
+            line: 2,
+            cause: LineCause::BadNumber,
+        },
+        "pegreplay: line 2: BadNumber\n",
+    ),
+    (
+        "PEGV 1\nSYMBOL X 2097152\nSYMBOL Y 1\n",
+        Status::LimitLine {
+            line: 3,
+            which: LimitCause::EventsSum,
+        },
+        "pegreplay: line 3: limit EventsSum\n",
+    ),
+];
+
+/// Plays a header in pieces.
+fn check_header(rt: &impl Abort, alloc: Global, case: &HeaderCase, piece: usize) -> Result<(), Fail>
+    requires { 0 < piece }
+{
+    let (text, status, told) = case;
+    let (got, out, err) = played(alloc, text, piece)?;
+    assert!(rt; got == *status, "at {text:?}");
+    assert_eq!(rt; out.bytes(), b"".as_slice());
+    assert_eq!(rt; err.bytes(), told.as_bytes());
     Ok(())
 }
 
 #[test]
 fn headers_are_read_in_any_pieces(rt: HostRuntime) -> Result<(), Fail> {
-    let bad = |line, cause| Status::BadLine { line, cause };
-    let cases = [
-        (HEADER, Status::Done, ""),
-        ("PEGV 1\nBEGIN 20240102-14:30:00.000\n", Status::Done, ""),
-        (
-            "PEGV 2\nSYMBOL X 9 0.05\nBEGIN 20240102-14:30:00.000\n",
-            Status::Done,
-            "",
-        ),
-        ("", bad(1, LineCause::NoEnd), "pegreplay: line 1: NoEnd\n"),
-        (
-            "PEGV 3\n",
-            bad(1, LineCause::BadHeader),
-            "pegreplay: line 1: BadHeader\n",
-        ),
-        (
-            "PEGV 1\nMEMBER A\nMEMBER A\n",
-            bad(3, LineCause::DoubleName),
-            "pegreplay: line 3: DoubleName\n",
-        ),
-        (
-            "PEGV 1\nSYMBOL X 0\n",
-            bad(2, LineCause::BadNumber),
-            "pegreplay: line 2: BadNumber\n",
-        ),
-        (
-            "PEGV 1\nSYMBOL X 2097152\nSYMBOL Y 1\n",
-            Status::LimitLine {
-                line: 3,
-                which: LimitCause::EventsSum,
-            },
-            "pegreplay: line 3: limit EventsSum\n",
-        ),
-    ];
-    for (text, status, told) in cases {
-        for piece in [1usize, 7, 4096] {
-            let (got, out, err) = played(rt.alloc(), text, piece)?;
-            assert!(rt; got == status, "at {text:?}");
-            assert_eq!(rt; out.bytes(), b"".as_slice());
-            assert_eq!(rt; err.bytes(), told.as_bytes());
-        }
+    for case in HEADERS {
+        check_header(&rt, rt.alloc(), case, 1)?;
+        check_header(&rt, rt.alloc(), case, 7)?;
+        check_header(&rt, rt.alloc(), case, 4096)?;
     }
     Ok(())
 }
@@ -168,11 +233,6 @@ B 8=FIXT.1.1|9=169|35=8|49=PEGV|56=B|34=3|52=20240102-14:30:00.000|37=X-3|11=b1|
 fn two_mid_price_orders_trade_between_two_cents(rt: HostRuntime) -> Result<(), Fail> {
     let alloc = rt.alloc();
     let (script, trade) = first_trade(alloc)?;
-    for piece in [1usize, 7, 4096] {
-        let (got, out, err) = played(alloc, script.as_str(), piece)?;
-        assert!(rt; got == Status::Done);
-        assert_eq!(rt; out.bytes(), trade.as_bytes());
-        assert_eq!(rt; err.bytes(), b"".as_slice());
-    }
-    Ok(())
+    check_pieces(&rt, alloc, "first trade", script.as_str(), 7, trade, "", 0)?;
+    check_played(&rt, alloc, "first trade", script.as_str(), trade, "", 0)
 }

@@ -2,7 +2,7 @@
 use super::{Worked, check_all};
 use std::test::Fail;
 
-const CERTIFICATION: [Worked; 12] = [
+const CERTIFICATION: &[Worked] = &[
     Worked {
         name: "a fill or kill order is killed",
         script: "PEGV 1
@@ -326,5 +326,5 @@ FUND 8=FIXT.1.1|9=210|35=8|49=PEGV|56=FUND|34=4|52=20240102-14:30:05.000|43=Y|12
 
 #[test]
 fn a_members_system_is_answered(rt: HostRuntime) -> Result<(), Fail> {
-    check_all(&rt, rt.alloc(), CERTIFICATION.as_slice())
+    check_all(&rt, rt.alloc(), CERTIFICATION)
 }

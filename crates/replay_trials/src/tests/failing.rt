@@ -3,6 +3,7 @@ use super::{HEADER, first_trade, run, shelf};
 use io_edge::MemSink;
 use replay_core::status::Status;
 use std::alloc::{AllocError, Global};
+use std::process::Abort;
 use std::test::Fail;
 
 /// How many lines of the first trade's transcript stand behind so many lines of its script.
@@ -44,38 +45,56 @@ fn played(
     Ok((status, out, err))
 }
 
+/// How many bytes of the transcript stand behind so many whole lines of the script.
+fn answered(trade: &str, lines: usize) -> Result<usize, Fail> {
+    let count = *ANSWERED.get(lines).ok_or("too many lines")?;
+    Ok(size_of_lines(trade, count).min(trade.len()))
+}
+
+/// The bytes of a text up to a place, or to its end.
+fn front(text: &str, end: usize) -> &[u8] {
+    &text.as_bytes()[..end.min(text.len())]
+}
+
+/// A run ends so, with this output and with what is told of it, where it can be told.
+fn check_failed(
+    rt: &impl Abort,
+    alloc: Global,
+    script: &str,
+    fails: (u64, u64, u64),
+    status: Status,
+    output: &[u8],
+) -> Result<(), Fail> {
+    let (got, out, err) = played(alloc, script, fails)?;
+    assert!(rt; got == status, "at {fails:?}");
+    assert_eq!(rt; out.bytes(), output, "at {fails:?}");
+    let text = match status {
+        _ if fails.2 != 0 => "",
+        Status::ReadFault => "pegreplay: read fault\n",
+        Status::WriteFault => "pegreplay: write fault\n",
+        _ => "",
+    };
+    assert_eq!(rt; err.bytes(), text.as_bytes());
+    Ok(())
+}
+
 #[test]
 fn each_failing_read_leaves_the_output_of_the_whole_lines_before(
     rt: HostRuntime,
 ) -> Result<(), Fail> {
     let alloc = rt.alloc();
     let (script, trade) = first_trade(alloc)?;
+    let script = script.as_str();
     // The shelf is begun by its first call, and the last one finds the script's end.
     let pulls = script.len().div_ceil(PIECE);
     for pull in 0..pulls + 1 {
-        let given = script.len().min(PIECE.saturating_mul(pull));
-        let lines = whole_lines(&script.as_bytes()[..given]);
-        let size = size_of_lines(trade, *ANSWERED.get(lines).ok_or("too many lines")?);
-        for told in [0u64, 1] {
-            let (status, out, err) = played(alloc, script.as_str(), (pull as u64 + 2, 0, told))?;
-            assert!(rt; status == Status::ReadFault, "at pull {pull}");
-            assert_eq!(rt;
-                out.bytes(),
-                &trade.as_bytes()[..size.min(trade.len())],
-                "at pull {pull}"
-            );
-            let text = if told == 0 {
-                "pegreplay: read fault\n"
-            } else {
-                ""
-            };
-            assert_eq!(rt; err.bytes(), text.as_bytes());
-        }
+        let lines = whole_lines(front(script, PIECE.saturating_mul(pull)));
+        let output = front(trade, answered(trade, lines)?);
+        let call = pull as u64 + 2;
+        check_failed(&rt, alloc, script, (call, 0, 0), Status::ReadFault, output)?;
+        check_failed(&rt, alloc, script, (call, 0, 1), Status::ReadFault, output)?;
     }
-    let (status, out, _) = played(alloc, script.as_str(), (1, 0, 0))?;
-    assert!(rt; status == Status::ReadFault);
-    assert_eq!(rt; out.bytes(), b"".as_slice());
-    Ok(())
+    check_failed(&rt, alloc, script, (1, 0, 0), Status::ReadFault, b"")
 }
 
 #[test]
@@ -83,35 +102,28 @@ fn a_call_that_is_not_reached_fails_nothing(rt: HostRuntime) -> Result<(), Fail>
     let alloc = rt.alloc();
     let (script, trade) = first_trade(alloc)?;
     let calls = script.len().div_ceil(PIECE) as u64 + 2;
-    let (status, out, err) = played(alloc, script.as_str(), (calls + 1, 12, 1))?;
-    assert!(rt; status == Status::Done);
-    assert_eq!(rt; out.bytes(), trade.as_bytes());
-    assert_eq!(rt; err.bytes(), b"".as_slice());
-    Ok(())
+    let fails = (calls + 1, 12, 1);
+    check_failed(
+        &rt,
+        alloc,
+        script.as_str(),
+        fails,
+        Status::Done,
+        trade.as_bytes(),
+    )
 }
 
 #[test]
 fn each_failing_put_leaves_a_beginning_of_the_transcript(rt: HostRuntime) -> Result<(), Fail> {
     let alloc = rt.alloc();
     let (script, trade) = first_trade(alloc)?;
+    let script = script.as_str();
     // The output of each line of the script is put by itself.
     for put in 1..12usize {
-        let size = size_of_lines(trade, ANSWERED[put - 1]);
-        for told in [0u64, 1] {
-            let (status, out, err) = played(alloc, script.as_str(), (0, put as u64, told))?;
-            assert!(rt; status == Status::WriteFault, "at put {put}");
-            assert_eq!(rt;
-                out.bytes(),
-                &trade.as_bytes()[..size.min(trade.len())],
-                "at put {put}"
-            );
-            let text = if told == 0 {
-                "pegreplay: write fault\n"
-            } else {
-                ""
-            };
-            assert_eq!(rt; err.bytes(), text.as_bytes());
-        }
+        let output = front(trade, answered(trade, put - 1)?);
+        let call = put as u64;
+        check_failed(&rt, alloc, script, (0, call, 0), Status::WriteFault, output)?;
+        check_failed(&rt, alloc, script, (0, call, 1), Status::WriteFault, output)?;
     }
     Ok(())
 }
@@ -119,16 +131,10 @@ fn each_failing_put_leaves_a_beginning_of_the_transcript(rt: HostRuntime) -> Res
 #[test]
 fn a_refused_line_whose_text_cannot_be_told_is_a_write_fault(rt: HostRuntime) -> Result<(), Fail> {
     let alloc = rt.alloc();
-    for script in ["PEGV 1\nX\n", "", HEADER] {
-        let (status, _, err) = played(alloc, script, (0, 0, 1))?;
-        let wanted = if script == HEADER {
-            Status::Done
-        } else {
-            Status::WriteFault
-        };
-        assert!(rt; status == wanted);
-        assert_eq!(rt; err.bytes(), b"".as_slice());
-    }
+    let told = (0, 0, 1);
+    check_failed(&rt, alloc, "PEGV 1\nX\n", told, Status::WriteFault, b"")?;
+    check_failed(&rt, alloc, "", told, Status::WriteFault, b"")?;
+    check_failed(&rt, alloc, HEADER, told, Status::Done, b"")?;
     let mut shelf = shelf(alloc, HEADER, PIECE, Vec::new(alloc))?;
     let mut out = MemSink::new(alloc, Vec::new(alloc));
     let mut err = MemSink::new(alloc, vec![in alloc; 1]?);

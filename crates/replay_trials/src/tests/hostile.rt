@@ -1,6 +1,7 @@
 //! Bytes that a hostile peer may send: what a logged-on member is answered.
-use super::played;
-use replay_core::status::Status;
+use super::check_played;
+use std::alloc::Global;
+use std::process::Abort;
 use std::test::Fail;
 
 const LOGGED_ON: &str = "PEGV 1
@@ -24,7 +25,7 @@ struct Attack {
     answers: &'static str,
 }
 
-const ATTACKS: [Attack; 13] = [
+const ATTACKS: &[Attack] = &[
     Attack {
         name: "no number, and a length with leading zeros",
         lines: "B A 8=FIXT.1.1|9=00005|35=0|10=177|
@@ -118,18 +119,24 @@ A 8=FIXT.1.1|9=62|35=5|49=PEGV|56=A|34=3|52=20240102-14:30:00.000|58=WRONG NAME|
     },
 ];
 
+fn check(rt: &impl Abort, alloc: Global, attack: &Attack) -> Result<(), Fail> {
+    let script = format!(in alloc; "{LOGGED_ON}{}", attack.lines)?;
+    let transcript = format!(in alloc; "{LOGON}{}", attack.answers)?;
+    check_played(
+        rt,
+        alloc,
+        attack.name,
+        script.as_str(),
+        transcript.as_str(),
+        "",
+        0,
+    )
+}
+
 #[test]
 fn a_hostile_peer_is_answered_as_the_profile_says(rt: HostRuntime) -> Result<(), Fail> {
-    let alloc = rt.alloc();
     for attack in ATTACKS {
-        let script = format!(in alloc; "{LOGGED_ON}{}", attack.lines)?;
-        let transcript = format!(in alloc; "{LOGON}{}", attack.answers)?;
-        for piece in [1usize, 4096] {
-            let (status, out, err) = played(alloc, script.as_str(), piece)?;
-            assert!(rt; status == Status::Done, "{}", attack.name);
-            assert_eq!(rt; out.bytes(), transcript.as_bytes(), "{}", attack.name);
-            assert_eq!(rt; err.bytes(), b"".as_slice(), "{}", attack.name);
-        }
+        check(&rt, rt.alloc(), attack)?;
     }
     Ok(())
 }

@@ -25,25 +25,27 @@ fn check(
     Ok(())
 }
 
+/// Words that ask for nothing.
+const OTHER_WORDS: &[&[&str]] = &[
+    &[],
+    &["-x"],
+    &["s", "s"],
+    &["load", "1"],
+    &["load", "1", "2", "3"],
+    &["Load", "1", "2"],
+    &["load", "00", "0"],
+    &["load", "0", "01"],
+    &["load", "200001", "0"],
+    &["load", "0", "200001"],
+    &["load", "x", "1"],
+    &["load", "1", ""],
+    &["load", "+1", "1"],
+    &["load", "1", "4294967297"],
+];
+
 #[test]
 fn words_of_another_form_are_refused(rt: HostRuntime) -> Result<(), Fail> {
-    let cases: [&[&str]; 14] = [
-        &[],
-        &["-x"],
-        &["s", "s"],
-        &["load", "1"],
-        &["load", "1", "2", "3"],
-        &["Load", "1", "2"],
-        &["load", "00", "0"],
-        &["load", "0", "01"],
-        &["load", "200001", "0"],
-        &["load", "0", "200001"],
-        &["load", "x", "1"],
-        &["load", "1", ""],
-        &["load", "+1", "1"],
-        &["load", "1", "4294967297"],
-    ];
-    for words in cases {
+    for words in OTHER_WORDS {
         check(
             &rt,
             rt.alloc(),
@@ -56,31 +58,33 @@ fn words_of_another_form_are_refused(rt: HostRuntime) -> Result<(), Fail> {
     Ok(())
 }
 
+/// The words of a load run, and its line.
+const LOADS: &[(&[&str], &str)] = &[
+    (
+        &["load", "80", "10"],
+        "events 92 accepted 81 rejected 0 trades 10 shares 1000 resting 70 groups 7\n",
+    ),
+    (
+        &["load", "0", "0"],
+        "events 2 accepted 1 rejected 0 trades 0 shares 0 resting 0 groups 0\n",
+    ),
+    (
+        &["load", "0", "5"],
+        "events 7 accepted 1 rejected 0 trades 0 shares 0 resting 0 groups 0\n",
+    ),
+    (
+        &["load", "9", "1"],
+        "events 12 accepted 10 rejected 0 trades 1 shares 100 resting 8 groups 7\n",
+    ),
+    (
+        &["load", "--", "3", "2"],
+        "events 7 accepted 4 rejected 0 trades 0 shares 0 resting 3 groups 3\n",
+    ),
+];
+
 #[test]
 fn load_runs_are_summed_up(rt: HostRuntime) -> Result<(), Fail> {
-    let cases: [(&[&str], &str); 5] = [
-        (
-            &["load", "80", "10"],
-            "events 92 accepted 81 rejected 0 trades 10 shares 1000 resting 70 groups 7\n",
-        ),
-        (
-            &["load", "0", "0"],
-            "events 2 accepted 1 rejected 0 trades 0 shares 0 resting 0 groups 0\n",
-        ),
-        (
-            &["load", "0", "5"],
-            "events 7 accepted 1 rejected 0 trades 0 shares 0 resting 0 groups 0\n",
-        ),
-        (
-            &["load", "9", "1"],
-            "events 12 accepted 10 rejected 0 trades 1 shares 100 resting 8 groups 7\n",
-        ),
-        (
-            &["load", "--", "3", "2"],
-            "events 7 accepted 4 rejected 0 trades 0 shares 0 resting 3 groups 3\n",
-        ),
-    ];
-    for (words, line) in cases {
+    for (words, line) in LOADS {
         check(&rt, rt.alloc(), words, Status::Done, line, "")?;
     }
     Ok(())

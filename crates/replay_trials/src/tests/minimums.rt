@@ -2,7 +2,7 @@
 use super::{Worked, check_all};
 use std::test::Fail;
 
-const MINIMUMS: [Worked; 5] = [
+const MINIMUMS: &[Worked] = &[
     Worked {
         name: "an immediate order without a quote",
         script: "PEGV 1
@@ -144,5 +144,5 @@ B 8=FIXT.1.1|9=169|35=8|49=PEGV|56=B|34=5|52=20240102-14:30:00.000|37=X-5|11=b1|
 
 #[test]
 fn minimums_are_met_or_nothing_trades(rt: HostRuntime) -> Result<(), Fail> {
-    check_all(&rt, rt.alloc(), MINIMUMS.as_slice())
+    check_all(&rt, rt.alloc(), MINIMUMS)
 }

@@ -2,7 +2,7 @@
 use super::{Worked, check_all};
 use std::test::Fail;
 
-const PRICES: [Worked; 14] = [
+const PRICES: &[Worked] = &[
     Worked {
         name: "a mid peg of side 1 is rounded by 1",
         script: "PEGV 1
@@ -356,5 +356,5 @@ D 8=FIXT.1.1|9=179|35=8|49=PEGV|56=D|34=4|52=20240102-14:30:00.000|37=X-7|11=d1|
 
 #[test]
 fn orders_follow_the_quote(rt: HostRuntime) -> Result<(), Fail> {
-    check_all(&rt, rt.alloc(), PRICES.as_slice())
+    check_all(&rt, rt.alloc(), PRICES)
 }

@@ -2,7 +2,7 @@
 use super::{Worked, check_all};
 use std::test::Fail;
 
-const REQUESTS: [Worked; 5] = [
+const REQUESTS: &[Worked] = &[
     Worked {
         name: "an unknown order is cancelled",
         script: "PEGV 1
@@ -128,5 +128,5 @@ Q X N 10.00 10.01
 
 #[test]
 fn requests_are_answered(rt: HostRuntime) -> Result<(), Fail> {
-    check_all(&rt, rt.alloc(), REQUESTS.as_slice())
+    check_all(&rt, rt.alloc(), REQUESTS)
 }

@@ -2,7 +2,7 @@
 use super::{Worked, check_all};
 use std::test::Fail;
 
-const SESSIONS: [Worked; 11] = [
+const SESSIONS: &[Worked] = &[
     Worked {
         name: "a frame has a wrong checksum",
         script: "PEGV 1
@@ -193,5 +193,5 @@ A 8=FIXT.1.1|9=169|35=8|49=PEGV|56=A|34=2|52=20240102-14:30:00.000|37=X-2|11=a1|
 
 #[test]
 fn sessions_go_on_or_end(rt: HostRuntime) -> Result<(), Fail> {
-    check_all(&rt, rt.alloc(), SESSIONS.as_slice())
+    check_all(&rt, rt.alloc(), SESSIONS)
 }
