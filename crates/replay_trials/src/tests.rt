@@ -53,14 +53,18 @@ fn run<H: Shelf, K: Sink, E: Sink>(
     Ok(counted::<H, K, E, Brand>(alloc, texts.as_slice(), shelf, out, err, Blank::new(1)))
 }
 
+/// A file with this name and text.
+fn file(alloc: Global, name: &str, text: &str) -> Result<(String, Vec<u8>), AllocError> {
+    let name = String::from_str(alloc, name)?;
+    let bytes = Vec::from_slice(alloc, text.as_bytes())?;
+    Ok((name, bytes))
+}
+
 fn shelf(alloc: Global, text: &str, piece: usize, fails: Vec<u64>) -> Result<MemShelf, AllocError>
     requires { 0 < piece }
 {
     let mut files = Vec::new(alloc);
-    files.push((
-        String::from_str(alloc, "s")?,
-        Vec::from_slice(alloc, text.as_bytes())?,
-    ))?;
+    files.push(file(alloc, "s", text)?)?;
     Ok(MemShelf::new(files, piece, fails))
 }
 

@@ -1,6 +1,6 @@
 //! Calls of the outside that fail in turn.
 use super::{HEADER, first_trade, run, shelf};
-use io_edge::MemSink;
+use io_edge::{MemShelf, MemSink};
 use replay_core::status::Status;
 use std::alloc::{AllocError, Global};
 use std::process::Abort;
@@ -32,15 +32,27 @@ fn whole_lines(bytes: &[u8]) -> usize {
     lines
 }
 
+/// A sink whose call with this number fails.
+fn failing_sink(alloc: Global, fails: u64) -> Result<MemSink, AllocError> {
+    let fails = vec![in alloc; fails]?;
+    Ok(MemSink::new(alloc, fails))
+}
+
+/// A shelf with a script that comes in small pieces, whose call with this number fails.
+fn failing_shelf(alloc: Global, script: &str, fails: u64) -> Result<MemShelf, AllocError> {
+    let fails = vec![in alloc; fails]?;
+    shelf(alloc, script, PIECE, fails)
+}
+
 /// Plays a script in small pieces, with calls of the shelf, of the output and of the second sink that fail.
 fn played(
     alloc: Global,
     script: &str,
     fails: (u64, u64, u64),
 ) -> Result<(Status, MemSink, MemSink), AllocError> {
-    let mut shelf = shelf(alloc, script, PIECE, vec![in alloc; fails.0]?)?;
-    let mut out = MemSink::new(alloc, vec![in alloc; fails.1]?);
-    let mut err = MemSink::new(alloc, vec![in alloc; fails.2]?);
+    let mut shelf = failing_shelf(alloc, script, fails.0)?;
+    let mut out = failing_sink(alloc, fails.1)?;
+    let mut err = failing_sink(alloc, fails.2)?;
     let status = run(alloc, &["s"], &mut shelf, &mut out, &mut err)?;
     Ok((status, out, err))
 }
