@@ -85,3 +85,14 @@ returns-in-Err-greet_turn-clause-stranger g c = inr (record {
   };
   ends = c.in-Err-greet_turn.ensures.ends;
 })
+
+-- no fault of the link is taken back
+
+pub returns-in-Err-clause-later : goal.returns-in-Err-clause-later
+returns-in-Err-clause-later g c = let h = c.turns.invariant.later in let k = c.ask.ensures.cause.later in omega arith
+
+pub returns-in-Ok-Some-clause-later : goal.returns-in-Ok-Some-clause-later
+returns-in-Ok-Some-clause-later g c = let h = c.turns.invariant.later in let k = c.ask.ensures.cause.later in omega arith
+
+pub returns-in-Err-greet_turn-clause-later : goal.returns-in-Err-greet_turn-clause-later
+returns-in-Err-greet_turn-clause-later g c = let h = c.turns.invariant.later in let k = c.ask.ensures.cause.later in omega arith
