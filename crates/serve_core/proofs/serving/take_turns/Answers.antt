@@ -86,3 +86,12 @@ returns-in-Err-take_turn-clause-session g c start x =
             e (c.in-Err-take_turn.ensures.ends so.stop so.serves));
       });
     }
+
+-- no fault of the link is taken back
+
+pub returns-in-Err-clause-later : goal.returns-in-Err-clause-later
+returns-in-Err-clause-later g c = let h = c.turns.invariant.later in let k = c.ask.ensures.cause.later in omega arith
+
+pub returns-in-Err-take_turn-clause-later : goal.returns-in-Err-take_turn-clause-later
+returns-in-Err-take_turn-clause-later g c =
+    let h = c.turns.invariant.later in let k = c.ask.ensures.cause.later in let l = c.take_turn.ensures.later in omega arith
