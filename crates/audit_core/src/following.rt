@@ -68,10 +68,16 @@ pub fn follow<H: Shelf, W: Watch, L: Ledger>(
     let mut reader = LineReader::new(alloc, 0, MAX_LISTING_BYTES)?;
     match shelf.begin(name) {
         Ok(()) => {}
-        Err(_) => return Err(AuditFault::ReadFault),
+        Err(_) => {
+            drop(reader);
+            return Err(AuditFault::ReadFault);
+        }
     }
     let mut auditor = Auditor::new(alloc, config);
-    read_lines(&mut auditor, config, &mut reader, shelf, watch, steps)
+    let verdict = read_lines(&mut auditor, config, &mut reader, shelf, watch, steps);
+    drop(auditor);
+    drop(reader);
+    verdict
 }
 
 /// Whether the file of this name is the listing of journals of the config, with the reports that the market's rules make of

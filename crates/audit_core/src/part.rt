@@ -134,7 +134,6 @@ impl OpenPart {
 
     /// Works the event that was read. It answers whether it may stand here: it has the next number, and the counts of the
     /// symbol's line allow it and its reports.
-    #[tactic(auto, using(crate::proofs::Working::takes_event, crate::proofs::Working::opens_more, crate::proofs::Working::grows_by))]
     pub fn work<L: Ledger>(
         &mut self,
         config: &Config,
