@@ -1,5 +1,5 @@
 -- The lines of more quotes.
-use Rattle.std.proofs.Common.{◌≡◌, ℕ, ℤ, true, List, [], ◌∷◌, ◌++◌, Option, Some, None, refl, sym, ◌∙◌, ap, append_assoc, append-nil, map}
+use Rattle.std.proofs.Common.{◌≡◌, ◌+◌, ◌<◌, ℕ, ℤ, suc, true, List, [], ◌∷◌, ◌++◌, Option, Some, None, refl, sym, ◌∙◌, ap, append_assoc, append-nil, map, length, get_or, drop, drop-cons, add-one}
 use Rattle.std.specs.List.{flat_map}
 use Rattle.std.specs.Option.{option_to_list}
 use Rattle.std.proofs.lemmas.Grind.{flat_map-append}
@@ -51,3 +51,31 @@ lines_all config first second =
 -- quotes of a symbol at a moment
 abbrev pub timed_all : ℤ → ℕ → List Command → List TimedQuote
 timed_all moment symbol quotes = map (λ quote. record { moment = moment; symbol = symbol; quote = quote }) quotes
+
+-- the next quote, and those behind it
+next_quote : (quotes : List Command) (i : ℕ) (quote : Command) → i < length quotes → quote ≡ get_or quotes i quote
+    → drop i quotes ≡ quote ∷ drop (i + 1) quotes
+next_quote quotes i quote within is =
+    rw add-one (drop-cons quotes i quote within ∙ ap (λ (q : Command). q ∷ drop (suc i) quotes) (sym is))
+
+line_behind : (text moment line rest : List ℕ) → text ++ (moment ++ line ++ rest) ≡ ((text ++ moment) ++ line) ++ rest
+line_behind text moment line rest = simp append_assoc
+
+-- one more quote of a symbol at a moment
+pub quote_more : (config : Config) (whole text one two : List ℕ) (last : Option ℤ) (moment : ℤ) (symbol : ℕ) (quotes : List Command) (i : ℕ) (quote : Command)
+    → i < length quotes → quote ≡ get_or quotes i quote
+    → whole ≡ text ++ lines_from config last (timed_all moment symbol (drop i quotes))
+    → one ≡ text ++ moment_if last moment → two ≡ one ++ quote_line config symbol quote
+    → whole ≡ two ++ lines_from config (Some moment) (timed_all moment symbol (drop (i + 1) quotes))
+quote_more config whole text one two last moment symbol quotes i quote within is so first second =
+    let rest = lines_from config (Some moment) (timed_all moment symbol (drop (i + 1) quotes)) in
+    so
+    ∙ ap (λ (qs : List Command). text ++ lines_from config last (timed_all moment symbol qs)) (next_quote quotes i quote within is)
+    ∙ line_behind text (moment_if last moment) (quote_line config symbol quote) rest
+    ∙ ap (λ (t : List ℕ). t ++ rest) (sym (second ∙ ap (λ (t : List ℕ). t ++ quote_line config symbol quote) first))
+
+pub moment_more : (whole last : Option ℤ) (moment : ℤ) (symbol : ℕ) (quotes : List Command) (i : ℕ) (quote : Command)
+    → i < length quotes → quote ≡ get_or quotes i quote
+    → whole ≡ last_moment last (timed_all moment symbol (drop i quotes)) → whole ≡ last_moment (Some moment) (timed_all moment symbol (drop (i + 1) quotes))
+moment_more whole last moment symbol quotes i quote within is so =
+    so ∙ ap (λ (qs : List Command). last_moment last (timed_all moment symbol qs)) (next_quote quotes i quote within is)
