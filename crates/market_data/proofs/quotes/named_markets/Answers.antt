@@ -1,5 +1,5 @@
 -- A market that is named later stands behind those so far.
-use Rattle.std.proofs.Common.{◌≡◌, ◌+◌, ◌<◌, ◌∙◌, ℕ, suc, Bool, true, false, if◌then◌else◌, List, [], ◌∷◌, ◌++◌, length, get_or, drop, drop-cons, add-one, append_assoc, refl, sym, ap, arith}
+use Rattle.std.proofs.Common.{◌≡◌, ◌+◌, ◌<◌, ◌∙◌, ℕ, Bool, true, false, if◌then◌else◌, List, [], ◌∷◌, ◌++◌, length, get_or, drop, drop-cons, add-one, append_assoc, refl, sym, ap, arith}
 use Rattle.market_data.specs.declared.entries.EntryQuote.{EntryQuote}
 use Rattle.market_data.specs.Quotes.{first_named, is_named, markets_in, with_named}
 use Rattle.market_data.proofs.quotes.named_markets.Goals as goal
