@@ -1,0 +1,88 @@
+//! The picture of a symbol's day by the files of its audit.
+ghost use Rattle.std.specs.Prelude.{◌≡◌, ◌≤◌, true};
+ghost use Rattle.venue_words.specs.Conditions.{IsConfig};
+ghost use Rattle.listing_reader.specs.Fitting.{has_word_names};
+ghost use Rattle.audit_core.specs.Names.{has_line_names};
+
+use crate::day::Day;
+use crate::picture::picture_of;
+use audit_core::{AuditFault, AuditFiles, AuditRefusal, Verdict, follow, has_line_names};
+use io_edge::Shelf;
+use line_reader::read_config;
+use listing_reader::has_word_names;
+use std::alloc::Global;
+use std::sync::ledger::Ledger;
+use venue_words::limits::MAX_CONFIG_BYTES;
+use venue_words::{Bytes, Config, Steps};
+
+/// What comes of it.
+#[derive(Drop)]
+pub enum Drawn {
+    /// The listing is one of the config, and this is the picture, as SVG.
+    Picture(Vec<u8>),
+    /// The line is the first with which it can be none.
+    Differs { line: u32, expected: Option<Bytes> },
+    /// The config has no symbol of that name.
+    NoSuchSymbol,
+}
+
+/// The number of the symbol with a name.
+fn symbol_named(config: &Config, name: &str) -> Option<u32> {
+    let mut number = 0u32;
+    for symbol in config.symbols.as_slice() {
+        if symbol.as_slice() == name.as_bytes() {
+            return Some(number);
+        }
+        number = number.saturating_add(1);
+    }
+    None
+}
+
+/// The day of a symbol of a config.
+fn drawn_of<H: Shelf, L: Ledger>(
+    alloc: Global,
+    config: &Config,
+    shelf: &mut H,
+    listing: &str,
+    symbol: &str,
+    steps: &mut Steps<L>,
+) -> Result<Drawn, AuditFault>
+    requires config { IsConfig config.now }
+    requires words { has_word_names config.now ≡ true }
+    requires lines { has_line_names config.now ≡ true }
+    ensures told { H.told shelf.new ≡ H.told shelf.old }
+    ensures later { H.faults shelf.old ≤ H.faults shelf.new }
+{
+    let Some(number) = symbol_named(config, symbol) else {
+        return Ok(Drawn::NoSuchSymbol);
+    };
+    let mut day = Day::new(alloc, number, config.markets.len() as u32)?;
+    match follow(alloc, config, shelf, listing, &mut day, steps)? {
+        Verdict::Same => Ok(Drawn::Picture(picture_of(alloc, symbol.as_bytes(), &day)?)),
+        Verdict::Differs { line, expected } => Ok(Drawn::Differs { line, expected }),
+    }
+}
+
+/// Audits the listing of a config, both of them files, and makes a picture of a symbol's day where it is one.
+pub fn draw_day<H: Shelf, L: Ledger>(
+    alloc: Global,
+    files: AuditFiles<'_>,
+    symbol: &str,
+    shelf: &mut H,
+    steps: &mut Steps<L>,
+) -> Result<Drawn, AuditRefusal>
+    ensures told { H.told shelf.new ≡ H.told shelf.old }
+    ensures later { H.faults shelf.old ≤ H.faults shelf.new }
+{
+    let config = match read_config(alloc, shelf, files.config, MAX_CONFIG_BYTES) {
+        Ok(file) => file.config,
+        Err(fault) => return Err(AuditRefusal::Config(fault)),
+    };
+    if !has_word_names(&config) || !has_line_names(&config) {
+        return Err(AuditRefusal::SplitName);
+    }
+    match drawn_of(alloc, &config, shelf, files.listing, symbol, steps) {
+        Ok(drawn) => Ok(drawn),
+        Err(fault) => Err(AuditRefusal::Listing(fault)),
+    }
+}
