@@ -18,7 +18,7 @@ const CONFIG: &[u8] =
     b"PEGV 1\nMEMBER A\nMEMBER B\nMARKET N\nSYMBOL X 3\nSYMBOL Y 2\nBEGIN 20240102-14:30:00.000\n";
 
 /// A quote, two orders and a trade, as the venue lists them.
-const PART: [&[u8]; 9] = [
+pub(crate) const PART: [&[u8]; 9] = [
     b"S X 3 4\n",
     b"J X 1 1 20240102-14:30:00.000 Q N 10.00 10.01\n",
     b"J X 2 1 20240102-14:30:00.000 D A 11=a1|54=1|38=100|40=P|1094=2|\n",
@@ -31,7 +31,7 @@ const PART: [&[u8]; 9] = [
 ];
 
 /// The listing with other text in the place of a line.
-fn listing_with(alloc: Global, place: usize, text: &[u8]) -> Result<Vec<u8>, Fail> {
+pub(crate) fn listing_with(alloc: Global, place: usize, text: &[u8]) -> Result<Vec<u8>, Fail> {
     let mut listing = Vec::new(alloc);
     for (k, line) in PART.iter().enumerate() {
         listing.extend_from_slice(if k == place { text } else { *line })?;
@@ -40,7 +40,12 @@ fn listing_with(alloc: Global, place: usize, text: &[u8]) -> Result<Vec<u8>, Fai
 }
 
 /// A shelf with the config `c` and the listing `l`, which gives so many bytes at once and fails at these calls.
-fn shelf_of(alloc: Global, text: Vec<u8>, piece: usize, fails: Vec<u64>) -> Result<MemShelf, Fail>
+pub(crate) fn shelf_of(
+    alloc: Global,
+    text: Vec<u8>,
+    piece: usize,
+    fails: Vec<u64>,
+) -> Result<MemShelf, Fail>
     requires { 0 < piece }
 {
     let mut config = Vec::new(alloc);
@@ -191,7 +196,7 @@ fn a_listing_that_stops_differs_behind_its_last_line(rt: HostRuntime) -> Result<
     look_at_fronts::<Brand>(&rt, rt.alloc(), Blank::new(1))
 }
 
-const FILES: AuditFiles<'static> = AuditFiles {
+pub(crate) const FILES: AuditFiles<'static> = AuditFiles {
     config: "c",
     listing: "l",
 };

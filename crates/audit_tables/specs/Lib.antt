@@ -1,0 +1,3 @@
+pub mod Trades
+pub mod Quotes
+pub mod Tables
