@@ -2,6 +2,7 @@
 ghost use Rattle.std.specs.Prelude.{◌≡◌};
 ghost use Rattle.pegaudit.specs.Exits.{exit_code};
 
+use audit_chart::Drawn;
 use audit_core::{AuditFault, AuditFiles, AuditRefusal, Verdict};
 use line_reader::ConfigFault;
 use std::io::{self, Write};
@@ -82,6 +83,33 @@ pub fn tell_verdict(rt: &HostRuntime, files: AuditFiles<'_>, verdict: Verdict) -
                 _ => exit,
             }
         }
+    }
+}
+
+/// Tells the verdict beside a table.
+pub fn tell_tabled(rt: &HostRuntime, files: AuditFiles<'_>, verdict: Verdict) -> Exit {
+    let listing = files.listing;
+    match verdict {
+        Verdict::Same => Exit::Done,
+        Verdict::Differs { line, .. } => told(
+            eprintln!(rt; "pegaudit: {listing}: line {line} differs"),
+            Exit::Differs,
+        ),
+    }
+}
+
+/// Puts a picture, or tells why there is none.
+pub fn tell_chart(rt: &HostRuntime, files: AuditFiles<'_>, symbol: &str, drawn: Drawn) -> Exit {
+    match drawn {
+        Drawn::Picture(picture) => told(rt.stdout().write_all(picture.as_slice()), Exit::Done),
+        Drawn::Differs { line, .. } => told(
+            eprintln!(rt; "pegaudit: {}: line {line} differs", files.listing),
+            Exit::Differs,
+        ),
+        Drawn::NoSuchSymbol => told(
+            eprintln!(rt; "pegaudit: {}: no symbol {symbol}", files.config),
+            Exit::BadWords,
+        ),
     }
 }
 
