@@ -24,28 +24,28 @@ moved slice kept at place other e p inside skips found fits =
     let whole : HasFound slice at place = record { inside = inside; skips = skips; found = found; fits = fits } in
     subst (λ (k : List ℕ). HasFound k at other) e (subst (λ (q : Place). HasFound slice at q) p whole)
 
-pub given : (old new : Stream) (frame : List ℕ) (at size : ℕ) → HasFound old.kept at (Whole size) → new.passed ≡ old.passed + (at + size) → new.kept ≡ drop (at + size) old.kept → frame ≡ take size (drop at old.kept) → HasGiven old new frame
-given old new frame at size f passed kept e =
+pub given : (old new : Stream) (frame : List ℕ) (at size : ℕ) → HasFound old.kept at (Whole size) → new.passed ≡ old.passed + (at + size) → new.kept ≡ drop (at + size) old.kept → new.held ≡ old.held → frame ≡ take size (drop at old.kept) → HasGiven old new frame
+given old new frame at size f passed kept held e =
     let all : length frame ≡ size = ap length e ∙ length-take-le size (drop at old.kept) (omega (arith, f.fits, length-drop at old.kept)) in
     let size_is : at + size ≡ at + length frame = omega arith in (
       at,
-      record { passed = passed ∙ ap (λ (n : ℕ). old.passed + n) size_is; kept = kept ∙ ap (λ (n : ℕ). drop n old.kept) size_is; inside = omega (arith, f.fits) },
+      record { passed = passed ∙ ap (λ (n : ℕ). old.passed + n) size_is; kept = kept ∙ ap (λ (n : ℕ). drop n old.kept) size_is; inside = omega (arith, f.fits); held = held },
       λ more. next_from-whole old.kept more at size f.skips f.found ∙ ap (gives at) (sym e),
     )
 
-pub exceeded : (old new : Stream) (at : ℕ) → HasFound old.kept at Long → new.passed ≡ old.passed + at → new.kept ≡ drop at old.kept → HasExceeded old new
-exceeded old new at f passed kept = (
+pub exceeded : (old new : Stream) (at : ℕ) → HasFound old.kept at Long → new.passed ≡ old.passed + at → new.kept ≡ drop at old.kept → new.held ≡ old.held → HasExceeded old new
+exceeded old new at f passed kept held = (
   at,
-  record { passed = passed; kept = kept; inside = f.inside },
+  record { passed = passed; kept = kept; inside = f.inside; held = held },
   λ more. next_from-long old.kept more at f.skips f.found,
   λ more. ap (λ (k : List ℕ). next_from (k ++ more)) kept ∙ next_from-long_on (drop at old.kept) more f.found,
 )
 
-pub waited : (old new : Stream) (at : ℕ) → HasFound old.kept at Passed ⊎ HasFound old.kept at Unfinished → new.passed ≡ old.passed + at → new.kept ≡ drop at old.kept → HasWaited old new
-waited old new at (inl f) passed kept =
-    (at, record { passed = passed; kept = kept; inside = f.inside }, f.skips, next_from-few_left old.kept at f.skips f.found, omega (arith, f.found, ap length kept))
-waited old new at (inr f) passed kept =
-    (at, record { passed = passed; kept = kept; inside = f.inside }, f.skips, next_from-unfinished old.kept at f.skips f.found, omega (arith, place_at-short (drop at old.kept) f.found.1, ap length kept))
+pub waited : (old new : Stream) (at : ℕ) → HasFound old.kept at Passed ⊎ HasFound old.kept at Unfinished → new.passed ≡ old.passed + at → new.kept ≡ drop at old.kept → new.held ≡ old.held → HasWaited old new
+waited old new at (inl f) passed kept held =
+    (at, record { passed = passed; kept = kept; inside = f.inside; held = held }, f.skips, next_from-few_left old.kept at f.skips f.found, omega (arith, f.found, ap length kept))
+waited old new at (inr f) passed kept held =
+    (at, record { passed = passed; kept = kept; inside = f.inside; held = held }, f.skips, next_from-unfinished old.kept at f.skips f.found, omega (arith, place_at-short (drop at old.kept) f.found.1, ap length kept))
 
 -- two cuts from the front are one
 pub cut_twice : (items : List ℕ) (start n m : ℕ) (view old : Stream) → view ≡ old → view.kept ≡ drop start items → m ≡ start + n → drop m items ≡ drop n old.kept
@@ -53,6 +53,9 @@ cut_twice items start n m view old v k e = ap (λ (j : ℕ). drop j items) e ∙
 
 pub passed_on : (passed n : ℕ) (view old : Stream) → view ≡ old → view.passed ≡ passed → passed + n ≡ old.passed + n
 passed_on passed n view old v e = ap (λ (j : ℕ). j + n) (sym e ∙ ap (λ (s : Stream). s.passed) v)
+
+pub held_on : (many : ℕ) (view old : Stream) → view ≡ old → view.held ≡ many → many ≡ old.held
+held_on many view old v e = sym e ∙ ap (λ (s : Stream). s.held) v
 
 pub frame_is : (slice items : List ℕ) (start at size begin many : ℕ) (view old : Stream) → slice ≡ items → view ≡ old → view.kept ≡ drop start items → begin ≡ start + at → many ≡ size → take many (drop begin slice) ≡ take size (drop at old.kept)
 frame_is slice items start at size begin many view old s v k b m =

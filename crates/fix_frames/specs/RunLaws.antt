@@ -10,7 +10,7 @@ use Rattle.fix_frames.specs.Runs.{Call, feeds, gave, waited, exceeded, Leads, by
 pub reading-calls : (calls : List Call) (old new : Stream) (more : List ℕ) → Leads old calls new → reading_of (old.kept ++ (bytes_fed calls ++ more)) ≡ with_frames (frames_given calls) (reading_of (new.kept ++ more))
 reading-calls [] old new more h = ap (λ (s : Stream). reading_of (s.kept ++ more)) h
 reading-calls (feeds piece ∷ calls) old new more h =
-    ap (λ (x : List ℕ). reading_of (old.kept ++ x)) (append_assoc piece (bytes_fed calls) more) ∙ ap reading_of (sym (append_assoc old.kept piece (bytes_fed calls ++ more))) ∙ reading-calls calls _ new more h
+    ap (λ (x : List ℕ). reading_of (old.kept ++ x)) (append_assoc piece (bytes_fed calls) more) ∙ ap reading_of (sym (append_assoc old.kept piece (bytes_fed calls ++ more))) ∙ reading-calls calls _ new more h.1
 reading-calls (gave frame ∷ calls) old new more h =
     reading-given old h.0 frame (bytes_fed calls ++ more) h.1 ∙ ap (with_frames (frame ∷ [])) (reading-calls calls h.0 new more h.2)
 reading-calls (waited ∷ calls) old new more h = reading-waited old h.0 (bytes_fed calls ++ more) h.1 ∙ reading-calls calls h.0 new more h.2
@@ -20,7 +20,8 @@ reading-calls (exceeded ∷ calls) old new more h =
 -- the stream between two lists of calls
 leads-append : (calls further : List Call) (old new : Stream) → Leads old (calls ++ further) new → (middle : Stream) × Leads old calls middle × Leads middle further new
 leads-append [] further old new h = (old, refl, h)
-leads-append (feeds piece ∷ calls) further old new h = leads-append calls further _ new h
+leads-append (feeds piece ∷ calls) further old new h =
+    let rest = leads-append calls further _ new h.1 in (rest.0, (h.0, rest.1), rest.2)
 leads-append (gave frame ∷ calls) further old new h =
     let rest = leads-append calls further h.0 new h.2 in (rest.0, (h.0, h.1, rest.1), rest.2)
 leads-append (waited ∷ calls) further old new h =
@@ -54,11 +55,11 @@ ends-calls : (calls : List Call) (bytes : List ℕ) (old new : Stream) → EndsW
 ends-calls [] bytes old new ends h =
     record { passed = omega (arith, ends.passed, ap (λ (s : Stream). s.passed) h, ap length (append-nil bytes)); kept = ap (λ (s : Stream). drop s.passed (bytes ++ [])) (sym h) ∙ ap (drop old.passed) (append-nil bytes) ∙ ends.kept ∙ ap (λ (s : Stream). s.kept) h }
 ends-calls (feeds piece ∷ calls) bytes old new ends h =
-    let more : EndsWith (bytes ++ piece) (record { passed = old.passed; kept = old.kept ++ piece }) = record {
+    let more : EndsWith (bytes ++ piece) (record { passed = old.passed; kept = old.kept ++ piece; held = h.0 }) = record {
       passed = omega (arith, ends.passed, length-append bytes piece);
       kept = drop-append-le old.passed bytes piece ends.passed ∙ ap (λ (k : List ℕ). k ++ piece) ends.kept;
     } in
-    let all = ends-calls calls (bytes ++ piece) _ new more h in
+    let all = ends-calls calls (bytes ++ piece) _ new more h.1 in
     record { passed = omega (arith, all.passed, ap length (append_assoc bytes piece (bytes_fed calls))); kept = ap (drop new.passed) (sym (append_assoc bytes piece (bytes_fed calls))) ∙ all.kept }
 ends-calls (gave frame ∷ calls) bytes old new ends h =
     ends-calls calls bytes h.0 new (goes_on bytes old h.0 (h.1.0 + length frame) ends h.1.1) h.2

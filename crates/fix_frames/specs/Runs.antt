@@ -12,7 +12,7 @@ pub data Call : Type 0 where
 -- the calls lead from one stream to another: a piece is appended, and each answer of `next` is as its contract says
 abbrev pub Leads : Stream → List Call → Stream → Type 0
 Leads old [] new = old ≡ new
-Leads old (feeds piece ∷ calls) new = Leads (record { passed = old.passed; kept = old.kept ++ piece }) calls new
+Leads old (feeds piece ∷ calls) new = (held : ℕ) × Leads (record { passed = old.passed; kept = old.kept ++ piece; held = held }) calls new
 Leads old (gave frame ∷ calls) new = (next : Stream) × HasGiven old next frame × Leads next calls new
 Leads old (waited ∷ calls) new = (next : Stream) × HasWaited old next × Leads next calls new
 Leads old (exceeded ∷ calls) new = (next : Stream) × HasExceeded old next × Leads next calls new

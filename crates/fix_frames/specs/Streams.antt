@@ -35,25 +35,27 @@ next_from (byte ∷ bytes) = answer_at (place_at (byte ∷ bytes)) (byte ∷ byt
 abbrev pub Skips : List ℕ → ℕ → Type 0
 Skips bytes n = (more : List ℕ) → next_from (bytes ++ more) ≡ advanced n (next_from (drop n bytes ++ more))
 
--- a stream so far: how many of its bytes were passed over or given, and those behind them
+-- a stream so far: how many of its bytes were passed over or given, those behind them, and how many bytes are held for it
 pub record Stream : Type 0 where
   pub passed : ℕ
   pub kept : List ℕ
+  pub held : ℕ
 
 -- a stream of which nothing came yet
 abbrev pub beginning : Stream
-beginning = record { passed = 0; kept = [] }
+beginning = record { passed = 0; kept = []; held = 0 }
 
 -- the bytes of a stream so far end with those kept, and so many stand before them
 pub record EndsWith (bytes : List ℕ) (stream : Stream) : Type 0 where
   pub passed : stream.passed ≤ length bytes
   pub kept : drop stream.passed bytes ≡ stream.kept
 
--- so many bytes more are passed over or given
+-- so many bytes more are passed over or given, and no more are held
 pub record GoesOn (old new : Stream) (n : ℕ) : Type 0 where
   pub passed : new.passed ≡ old.passed + n
   pub kept : new.kept ≡ drop n old.kept
   pub inside : n ≤ length old.kept
+  pub held : new.held ≡ old.held
 
 -- the next frame was given, whatever follows
 abbrev pub HasGiven : Stream → Stream → List ℕ → Type 0

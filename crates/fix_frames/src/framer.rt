@@ -1,5 +1,5 @@
 //! The framer: a stream comes in pieces, and its frames go out.
-ghost use Rattle.std.specs.Prelude.{◌≡◌, ◌+◌, ◌≤◌, ◌<◌, ◌++◌, [], length, drop, OnOk, OnErr};
+ghost use Rattle.std.specs.Prelude.{◌≡◌, ◌+◌, ◌*◌, ◌≤◌, ◌<◌, ◌++◌, [], length, drop, OnOk, OnErr};
 ghost use Rattle.fix_frames.specs.Streams.{Skips, beginning};
 ghost use Rattle.fix_frames.specs.Search.{IsFound, EndsWithin};
 
@@ -50,7 +50,7 @@ fn drop_front(bytes: &mut Vec<u8>, count: usize)
 }
 
 /// Cuts a stream into frames, however its bytes come. Contracts see it as how many bytes of the stream were passed
-/// over or given, and the bytes behind them, which are kept.
+/// over or given, the bytes behind them, which are kept, and how many bytes are held in memory.
 #[derive(Debug, Drop)]
 pub struct Framer {
     bytes: Vec<u8>,
@@ -66,7 +66,11 @@ impl Model for Framer {
 
     ghost Value = { Stream };
 
-    ghost view = { λ f. record { passed = f.passed; kept = drop f.start f.bytes.items } };
+    ghost view = { λ f. record {
+      passed = f.passed;
+      kept = drop f.start f.bytes.items;
+      held = length f.bytes.items;
+    } };
 
     ghost invariant = { λ f. (f.start ≤ length f.bytes.items) × (f.passed + (length f.bytes.items - f.start) < 2 ^ 64) };
 }
@@ -88,12 +92,13 @@ impl Framer {
         }
     }
 
-    /// Appends a piece to the stream. It is also refused where the stream would pass 2^64 - 1 bytes. A refusal leaves
-    /// the stream as it was.
+    /// Appends a piece to the stream. Behind it at most twice as many bytes are held as are kept. It is also refused
+    /// where the stream would pass 2^64 - 1 bytes. A refusal leaves the stream as it was.
     pub fn feed(&mut self, piece: &[u8]) -> Result<(), NoMemory>
         ensures passed { self.new.passed ≡ self.old.passed }
         ensures kept { OnOk result (self.new.kept ≡ self.old.kept ++ piece.now) }
-        ensures err { OnErr result (self.new.kept ≡ self.old.kept) }
+        ensures held { OnOk result (self.new.held ≤ 2 * length self.new.kept) }
+        ensures err { OnErr result ((self.new.kept ≡ self.old.kept) × (self.new.held ≤ self.old.held)) }
     {
         let kept = self.bytes.len() - self.start;
         if piece.len() as u64 > u64::MAX - self.passed - kept as u64 {

@@ -38,10 +38,10 @@ frame_behind_garbage garbage frame more garbled f fits =
 
 -- ---- whole streams
 
-given_part : (part : Part) → IsPart part → HasGiven (record { passed = 0; kept = bytes_of part }) (record { passed = length part.garbage + length part.frame; kept = [] }) part.frame
+given_part : (part : Part) → IsPart part → HasGiven (record { passed = 0; kept = bytes_of part; held = 0 }) (record { passed = length part.garbage + length part.frame; kept = []; held = 0 }) part.frame
 given_part part is = (
   length part.garbage,
-  record { passed = omega arith; kept = sym (drop_all (length part.garbage + length part.frame) (bytes_of part) (omega (arith, length-append part.garbage part.frame))); inside = omega (arith, length-append part.garbage part.frame) },
+  record { passed = omega arith; kept = sym (drop_all (length part.garbage + length part.frame) (bytes_of part) (omega (arith, length-append part.garbage part.frame))); inside = omega (arith, length-append part.garbage part.frame); held = refl },
   λ more. ap next_from (append_assoc part.garbage part.frame more) ∙ frame_behind_garbage part.garbage part.frame more (is.garbage more) is.frame is.fits,
 )
 
@@ -52,7 +52,7 @@ reading-none_fed = refl
 pub frames_come_through : FramesComeThrough
 frames_come_through [] all = reading-none_fed
 frames_come_through (part ∷ parts) all =
-    reading-given (record { passed = 0; kept = bytes_of part }) (record { passed = length part.garbage + length part.frame; kept = [] }) part.frame (flat_map bytes_of parts) (given_part part all.0)
+    reading-given (record { passed = 0; kept = bytes_of part; held = 0 }) (record { passed = length part.garbage + length part.frame; kept = []; held = 0 }) part.frame (flat_map bytes_of parts) (given_part part all.0)
     ∙ ap (with_frames (part.frame ∷ [])) (frames_come_through parts all.1)
 
 pub cuts_do_not_matter : CutsDoNotMatter

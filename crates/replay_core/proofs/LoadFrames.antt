@@ -47,10 +47,10 @@ pub whole_none : IsWhole []
 whole_none = record { frames = []; goes = λ more. refl }
 
 abbrev before_frame : List ℕ → Stream
-before_frame frame = record { passed = 0; kept = frame }
+before_frame frame = record { passed = 0; kept = frame; held = 0 }
 
 abbrev behind_frame : List ℕ → Stream
-behind_frame frame = record { passed = length frame; kept = [] }
+behind_frame frame = record { passed = length frame; kept = []; held = 0 }
 
 given : (frame : List ℕ) → IsFrame frame → length frame ≤ MAX_FRAME_BYTES → HasGiven (before_frame frame) (behind_frame frame) frame
 given frame is fits =
@@ -62,6 +62,7 @@ given frame is fits =
         passed = omega arith;
         kept = sym (drop_all (0 + length frame) frame (omega arith));
         inside = omega arith;
+        held = refl;
       },
       λ more. next_from-whole frame more 0 (length frame) (skips_none frame) (omega (arith, long), here) ∙ ap (gives 0) all,
     )

@@ -19,3 +19,13 @@ returns-then-branch c =
     let over : IsOverLimit new = subst (λ (b : Bool). MatchBool b (IsOverLimit new) (reading_of new.kept ≡ none_yet)) c.if-branch.true taken.rest in
     let left = fed_one (λ piece. piece.now) c.args.pieces.now _ c.loop-piece.piece-index _ _ _ c.loop-piece.framer c.feed.new.self new _ c.loop-piece-test.true c.loop-piece.invariant.whole c.in_ok-feed.ensures.kept taken in
     all_taken _ _ new _ left over
+
+pub loop-piece-preserved : goal.loop-piece-preserved
+loop-piece-preserved c =
+    let new = c.take_frames.new.framer in
+    let taken = c.in_ok-take_frames.ensures in
+    let rest : reading_of new.kept ≡ none_yet = subst (λ (b : Bool). MatchBool b (IsOverLimit new) (reading_of new.kept ≡ none_yet)) c.if-branch.false taken.rest in
+    record {
+      whole = fed_one (λ piece. piece.now) c.args.pieces.now _ c.loop-piece.piece-index _ _ _ c.loop-piece.framer c.feed.new.self new _ c.loop-piece-test.true c.loop-piece.invariant.whole c.in_ok-feed.ensures.kept taken;
+      none = rest;
+    }

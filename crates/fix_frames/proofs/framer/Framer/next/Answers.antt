@@ -1,7 +1,7 @@
 -- What was found, in the words of the stream.
-use Rattle.std.proofs.Common.{◌≡◌, ◌+◌, arith, refl, ◌∙◌, ◌⊎◌, inl, inr}
+use Rattle.std.proofs.Common.{◌≡◌, ◌+◌, length, arith, refl, ◌∙◌, ◌⊎◌, inl, inr}
 use Rattle.fix_frames.specs.declared.place.Place.TheVariants.{Passed, Unfinished, Long, Whole}
-use Rattle.fix_frames.proofs.Steps.{kept_is, HasFound, moved, given, exceeded, waited, cut_twice, passed_on, frame_is}
+use Rattle.fix_frames.proofs.Steps.{kept_is, HasFound, moved, given, exceeded, waited, cut_twice, passed_on, held_on, frame_is}
 use Rattle.fix_frames.proofs.framer.Framer.next.Goals as goal
 
 pub returns-in-Whole : goal.returns-in-Whole
@@ -16,7 +16,7 @@ returns-in-Whole c =
     let e = kept_is c.deref.result.now items start _ old c.deref.ensures.value c.self.view_is refl in
     let f = moved _ old.kept at c.search-at.result.1 (Whole size) e c.in-Whole.is s.inside s.skips s.found s.fits in
     let both : before + at + size ≡ before + (at + size) = omega arith in
-    ((refl, λ _. tt, given old _ _ at size f (both ∙ passed_on before (at + size) _ old c.self.view_is refl) (cut_twice items start (at + size) _ _ old c.self.view_is refl (omega arith)) (frame_is c.deref-in-Whole.result.now items start at size _ _ _ old c.deref-in-Whole.ensures.value c.self.view_is refl refl (omega arith))), record { after = tt })
+    ((refl, λ _. tt, given old _ _ at size f (both ∙ passed_on before (at + size) _ old c.self.view_is refl) (cut_twice items start (at + size) _ _ old c.self.view_is refl (omega arith)) (held_on (length items) _ old c.self.view_is refl) (frame_is c.deref-in-Whole.result.now items start at size _ _ _ old c.deref-in-Whole.ensures.value c.self.view_is refl refl (omega arith))), record { after = tt })
 
 pub returns-in-Long : goal.returns-in-Long
 returns-in-Long c =
@@ -27,7 +27,7 @@ returns-in-Long c =
     let s = c.search-at.ensures in
     let e = kept_is c.deref.result.now items start _ old c.deref.ensures.value c.self.view_is refl in
     let f = moved _ old.kept at c.search-at.result.1 Long e c.in-Long.is s.inside s.skips s.found s.fits in
-    ((refl, λ _. tt, exceeded old _ at f (passed_on c.self.inside.passed at _ old c.self.view_is refl) (cut_twice items start at _ _ old c.self.view_is refl refl)), record { after = tt })
+    ((refl, λ _. tt, exceeded old _ at f (passed_on c.self.inside.passed at _ old c.self.view_is refl) (cut_twice items start at _ _ old c.self.view_is refl refl) (held_on (length items) _ old c.self.view_is refl)), record { after = tt })
 
 pub returns-in-Passed : goal.returns-in-Passed
 returns-in-Passed c =
@@ -41,4 +41,4 @@ returns-in-Passed c =
       | inl p ↦ inl (moved _ old.kept at c.search-at.result.1 Passed e p s.inside s.skips s.found s.fits)
       | inr p ↦ inr (moved _ old.kept at c.search-at.result.1 Unfinished e p s.inside s.skips s.found s.fits)
     ] in
-    ((refl, λ _. tt, waited old _ at f (passed_on c.self.inside.passed at _ old c.self.view_is refl) (cut_twice items start at _ _ old c.self.view_is refl refl)), record { after = tt })
+    ((refl, λ _. tt, waited old _ at f (passed_on c.self.inside.passed at _ old c.self.view_is refl) (cut_twice items start at _ _ old c.self.view_is refl refl) (held_on (length items) _ old c.self.view_is refl)), record { after = tt })
