@@ -16,6 +16,7 @@ use Rattle.eager_meaning.specs.Matching.{fill_price}
 use Rattle.market_laws.specs.Equalities.{some_is}
 use Rattle.market_laws.specs.Trading.{IsWithinQuote}
 use Rattle.market_laws.specs.Placed.{opposite}
+use Rattle.market_laws.specs.PriceLaws.{row_most}
 
 tested : (n : ℕ) → nat_le 1 n ≡ true → 1 ≤ n
 tested n e = grind (arith, nat_tests)
@@ -124,28 +125,6 @@ price_within best Sell taker contra s t p q c =
     (elim (older taker contra) [ inl e ↦ inr (e ∙ shown_as taker Sell m.v s m.is_v) | inr e ↦ inl (e ∙ shown_as contra Buy m.w t m.is_w) ])
 
 -- ---- no price is above the greatest
-
-price_bound : (low high : Bool) (m far cap v : ℕ) → nat_lt (min m far) PRICE_END ≡ high → option_map (λ value. min value cap) (cond (low && high) (Some (min m far)) None) ≡ Some v → v ≤ PRICE_END
-price_bound true true m far cap v l h =
-    let e : min (min m far) cap ≡ v = some_is _ _ h in
-    let less : min m far ≤ PRICE_END = below_end _ l in
-    omega arith
-  where
-    below_end : (n : ℕ) → nat_lt n PRICE_END ≡ true → n ≤ PRICE_END
-    below_end n e = grind (arith, nat_tests)
-price_bound true false m far cap v l h = cc
-price_bound false high m far cap v l h = cc
-
-value_most : (has : Bool) (m far cap v : ℕ) → option_map (λ value. min value cap) (cond has (in_range (min m far)) None) ≡ Some v → v ≤ PRICE_END
-value_most false m far cap v h = cc
-value_most true m far cap v h = price_bound (nat_le 1 (min m far)) (nat_lt (min m far) PRICE_END) m far cap v refl h
-
-row_most : (best : Best) (row : Row) (v : ℕ) → value_under best row ≡ Some v → v ≤ PRICE_END
-unfolding value_under peg_value
-row_most best row v h =
-    let near = near_value row.key.side best in
-    let far = far_value row.key.side best in
-    value_most (has_reference row.key.reference best) (rounded row.key.rounding row.key.grid (shifted row.key.side row.key.offset (reference_value row.key.reference near far))) far row.cap v h
 
 shown_most : (best : Best) (x : Priced) → x.value ≡ value_under best x.row → unwrap_or (price_shown x) 0 ≤ PRICE_END
 shown_most best x p = go x.value refl where

@@ -11,6 +11,7 @@ pub mod Names
 pub mod Orders
 pub mod Pairwise
 pub mod Placed
+pub mod PriceLaws
 pub mod QuantityLaws
 pub mod Replies
 pub mod Reports

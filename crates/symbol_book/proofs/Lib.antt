@@ -8,6 +8,7 @@ pub mod Naming
 pub mod Numbers
 pub mod Reporting
 pub mod Requests
+pub mod RestingOrders
 pub mod Rules
 pub mod SameBest
 pub mod SmallOrders

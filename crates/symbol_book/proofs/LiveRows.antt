@@ -8,6 +8,7 @@ use Rattle.eager_meaning.specs.declared.order.Order.{Order}
 use Rattle.eager_meaning.specs.Orders.{order_named, live_named}
 use Rattle.eager_meaning.specs.Showing.{row_of_order}
 use Rattle.market_laws.specs.Standing.{row_by_now, row_left}
+use Rattle.match_core.specs.BothSides.{Rests}
 use Rattle.symbol_book.specs.Finding.{IsNumber, IsRowIfLive, IsFoundAs, IsFound}
 use Rattle.symbol_book.specs.Rows.{AreEntered}
 
@@ -107,6 +108,23 @@ live_rests number row order entered orders rows are at live =
           )
       | inr filled ↦ let none : Some row ≡ None = live.filled order at filled in absurd (cc)
     ]
+
+-- a live order that entered with a row, as it rests
+pub record RestsAs (number : ℕ) (order : Order) (entry : Row) (rows : List Priced) : Type 0 where
+  pub x : Priced
+  pub is : row_of_order number rows ≡ Some x
+  pub row : x.row ≡ row_by_now order entry
+  pub of : entry.order ≡ number
+  pub rests : Rests entry rows
+
+pub rests_as : (number : ℕ) (entry : Row) (order : Order) (entered : List (Option Row)) (orders : List Order) (rows : List Priced) → AreEntered entered orders rows
+    → slice_get orders number ≡ Some order → IsRowIfLive orders entered number (Some entry) → RestsAs number order entry rows
+rests_as number entry order entered orders rows are at live =
+    let r = live_rests number entry order entered orders rows are at live in
+    let less : nat_lt order.cum order.quantity ≡ true = let more = r.2.more in grind (arith, nat_tests) in
+    let left : row_left order (Some entry) ≡ Some (row_by_now order entry) = rw less refl in
+    let here = row_there number rows (row_by_now order entry) (are.each number order (Some entry) at (live.live order at r.2.more) ∙ left) in
+    record { x = here.x; is = here.is; row = here.row_is; of = r.2.order; rests = r.2.rests }
 
 -- an order that is not live has none
 pub none_rests : (number : ℕ) (order : Order) (entered : List (Option Row)) (orders : List Order) (rows : List Priced) → AreEntered entered orders rows

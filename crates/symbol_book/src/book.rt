@@ -2,22 +2,24 @@
 use crate::hashing::HashSeed;
 use crate::ids::UsedIds;
 use crate::log::ReportLog;
+use crate::looking::resting_row;
 use crate::parts::Parts;
 use crate::preparing::{key_for, make_room, room_for};
 use crate::room::Room;
 use crate::taking::takes_command;
 use crate::working::work;
 use best_prices::Markets;
+use eager_meaning::Order;
 use market_laws::{
     book_is_sound, bought_shares_are_sold, cum_is_sum_of_trades, new_is_answered_once,
-    new_trades_fit, quote_trades_fit, replace_trades_fit, reports_are_few, rows_stand,
-    trades_are_within_quote,
+    new_trades_fit, quote_trades_fit, replace_trades_fit, reports_are_few, rows_are_placed,
+    rows_stand, trades_are_within_quote,
 };
 use match_core::Engine;
 use std::alloc::Global;
 use std::marker::Model;
 use std::sync::ledger::Ledger;
-use venue_words::{Command, Event, FloorRefusal, Key, NoMemory, Report, Steps};
+use venue_words::{Command, Event, FloorRefusal, Key, NoMemory, Priced, Report, Steps};
 
 /// The book of one symbol over a matching engine. It is seen as its journal and what that makes: the state and the reports
 /// are always those of the market's rules for the journal.
@@ -69,6 +71,7 @@ impl<E: Engine + Drop> BookOver<E> {
     ghost use Rattle.venue_words.specs.declared.limits.TheConstants.{MAX_EVENTS};
     ghost use Rattle.venue_words.specs.Journals.{IfFull};
     ghost use Rattle.venue_words.specs.declared.price.Side.TheVariants.{Buy, Sell};
+    ghost use Rattle.eager_meaning.specs.Showing.{row_of_order};
     ghost use Rattle.eager_meaning.specs.State.{resting};
     ghost use Rattle.eager_meaning.specs.Step.{IsNumbered, runs};
     ghost use Rattle.eager_meaning.specs.Work.{bound, groups};
@@ -151,6 +154,26 @@ impl<E: Engine + Drop> BookOver<E> {
         ensures numbered { IsNumbered result.now }
     {
         self.journal.as_slice()
+    }
+
+    /// All orders that were accepted, live or not, in the order of their News. An order's number is its place, from 0.
+    pub fn orders(&self) -> &[Order]
+        ensures { result.now ≡ (runs self.now.markets self.now.tick self.now.journal).state.orders }
+    {
+        self.parts.orders.as_slice()
+    }
+
+    /// The order of a number as it rests: what it entered with, its shares left, its value and its time; or none where it
+    /// does not rest. It takes at most 512 steps.
+    pub fn resting_order<L: Ledger>(&self, number: u32, steps: &mut Steps<L>) -> Option<Priced>
+        requires { number < length (runs self.now.markets self.now.tick self.now.journal).state.orders }
+        ensures row { result ≡ row_of_order number (resting (runs self.now.markets self.now.tick self.now.journal).state) }
+        ensures most { steps.new ≤ steps.old + 512 }
+    {
+        rows_stand();
+        rows_are_placed();
+        let parts = &self.parts;
+        resting_row(&parts.engine, &parts.orders, &parts.entered, number, steps)
     }
 
     /// How many orders rest.

@@ -13,6 +13,7 @@ mod held;
 mod id_buffers;
 pub mod ids;
 mod log;
+mod looking;
 mod parts;
 mod preparing;
 mod quoting;
