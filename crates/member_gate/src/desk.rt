@@ -2,6 +2,7 @@
 ghost use Rattle.std.specs.Prelude.{◌≡◌, ◌≤◌, ◌<◌, ◌++◌, ◌⊎◌, ℕ, [], true, false, length, IfOk, OnOk, OnErr, IfErr, IsOk};
 ghost use Rattle.venue_words.specs.Conditions.{IsConfig};
 ghost use Rattle.venue_words.specs.Floors.{IsSetUpFor, TurnsRose};
+ghost use Rattle.venue_words.specs.declared.limits.TheConstants.{MAX_FRAME_BYTES};
 ghost use Rattle.session_core.specs.Machine.{IsUp, IsOver, sending, on_clock, given_up};
 ghost use Rattle.session_core.specs.Runs.{send_if_up};
 ghost use Rattle.fix_frames.specs.Reading.{reading_of};
@@ -105,6 +106,7 @@ impl Desk {
             origin.entry.member origin.entry.moment self.old.session
             (reading_of (self.old.unread ++ piece.now))).submissions) }
         ensures unread { OnOk result (AreUnread (self.old.unread ++ piece.now) self.new.unread) }
+        ensures few { OnOk result (IsOver self.new.session ⊎ (length self.new.unread < MAX_FRAME_BYTES)) }
         ensures mark { F.mark floor.new ≡ F.mark floor.old }
         ensures took { OnOk result (TookAll F.at F.step_limit (F.mark floor.old) origin.entry.feed origin.entry.moment
             (work_of_reading origin.entry.config.now origin.entry.member origin.entry.moment self.old.session
@@ -155,9 +157,11 @@ impl Desk {
             ≡ sending self.new.session (work_of_piece config.now moment self.old piece.now).replies) }
         ensures session { OnOk result (self.new.session ≡ (work_of_piece config.now moment self.old piece.now).session) }
 
-        // Unless the connection had ended before, the stream goes on from the bytes that are unread then.
+        // Unless the connection had ended before, the stream goes on from the bytes that are unread then. These are fewer
+        // than the greatest frame has, unless it ended now.
         ensures unread { OnOk result (IsOver self.old.session
             ⊎ AreUnread (self.old.unread ++ piece.now) self.new.unread) }
+        ensures few { OnOk result (IsOver self.new.session ⊎ (length self.new.unread < MAX_FRAME_BYTES)) }
 
         // The floor took exactly the commands of the piece's frames.
         ensures took { OnOk result (TookAll F.at F.step_limit (F.mark floor.old) feed moment

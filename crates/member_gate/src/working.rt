@@ -3,7 +3,7 @@ ghost use Rattle.std.specs.Prelude.{◌≡◌, ◌+◌, ◌≤◌, ◌<◌, ◌+
 ghost use Rattle.venue_words.specs.Conditions.{IsConfig};
 ghost use Rattle.venue_words.specs.Floors.{IsSetUpFor};
 ghost use Rattle.fix_frames.specs.Reading.{reading_of};
-ghost use Rattle.session_core.specs.Machine.{given_up};
+ghost use Rattle.session_core.specs.Machine.{IsOver, given_up};
 ghost use Rattle.member_gate.specs.Submitting.{TookAll, TookNone, Stopped};
 ghost use Rattle.member_gate.specs.Working.{work_of_frame, work_at_limit, work_of_reading, AreUnread, GaveUp};
 
@@ -113,6 +113,7 @@ pub fn work_frames<F: Floor, L: Ledger>(
     ensures count { OnOk result (worked.new.submitted ≡ length (work_of_reading origin.entry.config.now
         origin.entry.member origin.entry.moment session.old (reading_of framer.old.kept)).submissions) }
     ensures unread { OnOk result (AreUnread framer.old.kept framer.new.kept) }
+    ensures few { OnOk result (IsOver session.new ⊎ (length framer.new.kept < MAX_FRAME_BYTES)) }
     ensures mark { F.mark floor.new ≡ F.mark floor.old }
     ensures took { OnOk result (TookAll F.at F.step_limit (F.mark floor.old) origin.entry.feed origin.entry.moment
         (work_of_reading origin.entry.config.now origin.entry.member origin.entry.moment session.old

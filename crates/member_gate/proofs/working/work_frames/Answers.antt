@@ -1,12 +1,14 @@
 -- Frame by frame the work goes on; it ends where the framer has no further frame, at one that is too long, or at a refusal.
-use Rattle.std.proofs.Common.{◌∙◌, subst}
+use Rattle.std.proofs.Common.{◌∙◌, inl, inr, subst, sym}
 use Rattle.std.proofs.lemmas.Result.{err_from_is_err_and}
 use Rattle.fix_frames.specs.declared.framer.Next.{Next}
 use Rattle.fix_frames.specs.Streams.{IsNext}
 use Rattle.venue_words.specs.Floors.{FloorMark}
 use Rattle.member_gate.specs.Submitting.{TookAll, TookNone}
 use Rattle.member_gate.specs.Working.{work_of_frame}
+use Rattle.session_core.specs.Machine.{IsOver, Machine}
 use Rattle.member_gate.proofs.Framing.{given_short, given_shorter}
+use Rattle.member_gate.proofs.Over.{over_at_limit}
 use Rattle.member_gate.proofs.Underway.{underway_more, worked_whole, worked_to_limit, stopped_at_frame, stopped_at_limit}
 use Rattle.member_gate.proofs.working.work_frames.Goals as goal
 
@@ -82,6 +84,18 @@ returns-in-Wait-clause-replies g c =
     c.args.session.now c.args.framer.now.kept c.args.worked.now.replies.items (c.args.floor.now, c.args.steps.now)
     c.frames.session old new c.frames.worked.replies.items c.frames.worked.submitted (c.frames.floor, c.frames.steps) c.frames.invariant.underway
     (subst (λ (r : Next). IsNext old r new) c.in-Wait.is c.next.follows.holds-at-none)).replies_are
+
+pub returns-in-Wait-clause-few : goal.returns-in-Wait-clause-few
+returns-in-Wait-clause-few g c =
+    let old = c.frames.framer in
+    let new = c.next.follows.lender-at-none in
+    let waited = subst (λ (r : Next). IsNext old r new) c.in-Wait.is c.next.follows.holds-at-none in
+    inr waited.4
+
+pub returns-in-TooLong-clause-few : goal.returns-in-TooLong-clause-few
+returns-in-TooLong-clause-few g c =
+    let done = c.in_ok-end_too_long-in-TooLong.ensures in
+    inl (subst (λ (m : Machine). IsOver m) (sym done.session) (over_at_limit c.frames.session c.args.origin.moment))
 
 pub returns-in-Wait-clause-unread : goal.returns-in-Wait-clause-unread
 returns-in-Wait-clause-unread g c =
