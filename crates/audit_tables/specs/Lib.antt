@@ -1,3 +1,5 @@
 pub mod Trades
 pub mod Quotes
 pub mod Tables
+pub mod Cells
+pub mod Asked

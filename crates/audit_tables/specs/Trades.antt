@@ -15,6 +15,7 @@ use Rattle.listing.specs.Commands.{name_at}
 use Rattle.listing.specs.Lines.{ended}
 use Rattle.audit_core.specs.Audited.{run_of}
 use Rattle.audit_core.specs.Telling.{Telling, reports_of_last}
+use Rattle.audit_tables.specs.Cells.{cell}
 
 -- a trade, by what the order that buys and the order that sells are told
 pub record Trade : Type 0 where
@@ -55,10 +56,6 @@ pub record IsNextTraded (reports : List Report) (start place : ℕ) : Type 0 whe
 -- the national quote behind a journal
 abbrev pub best_behind : Config → ℕ → List Event → Best
 best_behind config symbol journal = best_of (run_of config symbol journal).state.markets
-
--- a further field: a comma stands before it
-abbrev pub cell : List ℕ → List ℕ
-cell text = 44 ∷ text
 
 -- the orders of a trade and their members
 abbrev pub parties : Config → ℕ → Trade → List ℕ

@@ -1,16 +1,17 @@
 //! The lines of trades.
-ghost use Rattle.std.specs.Prelude.{◌≡◌, ◌++◌, [], None, IfSome, OnOk, decimal, drop, filter, unwrap_or};
+ghost use Rattle.std.specs.Prelude.{◌≡◌, ◌++◌, [], None, IfSome, OnOk, drop, filter, unwrap_or};
 ghost use Rattle.fix_write.specs.Moments.{moment_text};
 ghost use Rattle.exec_reports.specs.Parts.{first_in, last_price_in, last_quantity_in};
 ghost use Rattle.exec_reports.specs.Texts.{order_id, price_text};
 ghost use Rattle.quote_text.specs.Sides.{side_text};
 ghost use Rattle.listing.specs.Commands.{name_at};
 ghost use Rattle.listing.specs.Lines.{ended};
-ghost use Rattle.audit_tables.specs.Trades.{IsNextTraded, cell, is_buy, is_traded, parties, trade_line, trade_lines, trade_of, trades_in};
+ghost use Rattle.audit_tables.specs.Cells.{cell};
+ghost use Rattle.audit_tables.specs.Trades.{IsNextTraded, is_buy, is_traded, parties, trade_line, trade_lines, trade_of, trades_in};
 
+use crate::cells::{push_cell, push_number_cell};
 use exec_reports::parts::{first_of, last_price_of, last_quantity_of, side_of};
 use exec_reports::texts::{push_order_id, push_price};
-use fix_write::digits::push_number;
 use fix_write::push_moment;
 use listing::name_at;
 use quote_text::push_side;
@@ -21,23 +22,6 @@ fn is_traded(report: &Report) -> bool
     ensures { result ≡ is_traded report.now }
 {
     last_quantity_of(&report.kind).is_some()
-}
-
-/// Appends a comma and a text.
-fn push_cell(out: &mut Vec<u8>, text: &[u8]) -> Result<(), NoMemory>
-    ensures { OnOk result (out.new.items ≡ out.old.items ++ cell text.now) }
-{
-    out.push(b',')?;
-    out.extend_from_slice(text)?;
-    Ok(())
-}
-
-/// Appends a comma and a number.
-fn push_number_cell(out: &mut Vec<u8>, number: u32) -> Result<(), NoMemory>
-    ensures { OnOk result (out.new.items ≡ out.old.items ++ cell (decimal number)) }
-{
-    out.push(b',')?;
-    push_number(out, u64::from(number))
 }
 
 /// Appends a comma and the moment of a report.
@@ -103,10 +87,10 @@ fn push_trade_line(
         ++ ended (trade_line config.now symbol best (record { buy = buy.now; sell = sell.now }))) }
 {
     out.extend_from_slice(name_at(config.symbols.as_slice(), symbol))?;
-    push_number_cell(out, buy.event)?;
+    push_number_cell(out, u64::from(buy.event))?;
     push_moment_cell(out, buy.moment)?;
     push_price_cell(out, last_price_of(&buy.kind).unwrap_or(0))?;
-    push_number_cell(out, last_quantity_of(&buy.kind).unwrap_or(0))?;
+    push_number_cell(out, u64::from(last_quantity_of(&buy.kind).unwrap_or(0)))?;
     push_parties(out, config, symbol, buy, sell)?;
     push_side_cell(out, best.bid)?;
     push_side_cell(out, best.offer)?;

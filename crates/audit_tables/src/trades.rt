@@ -1,12 +1,9 @@
 //! The table of trades.
-ghost use Rattle.std.specs.Prelude.{◌≡◌, ◌-◌, ◌++◌, ℕ, [], true, Some, IfOk, OnOk, length, slice_get};
-ghost use Rattle.venue_words.specs.Conditions.{IsConfig};
-ghost use Rattle.venue_words.specs.declared.command.Event.{Event};
-ghost use Rattle.symbol_book.specs.Commands.{takes_command};
-ghost use Rattle.audit_tables.specs.Quotes.{HasQuotes, markets_after};
+ghost use Rattle.std.specs.Prelude.{◌≡◌, ◌++◌, [], IfOk, OnOk};
 ghost use Rattle.audit_tables.specs.Trades.{trade_header};
 
 use crate::lines::Lines;
+use crate::quotes::{no_quotes, note_last};
 use crate::table::Table;
 use crate::trade_line::push_trades;
 use audit_core::{Watch, WatchFault};
@@ -14,7 +11,7 @@ use best_prices::Markets;
 use io_edge::{Failed, Sink};
 use std::alloc::Global;
 use symbol_book::Book;
-use venue_words::{Command, Config, Event, NoMemory, Report};
+use venue_words::{Config, NoMemory, Report};
 
 /// A table of trades on its way to a sink: a line for each, with the national quote behind its event.
 #[derive(Drop)]
@@ -33,41 +30,6 @@ fn push_header(out: &mut Vec<u8>) -> Result<(), NoMemory>
         b"symbol,event,moment,price,quantity,buy_order,sell_order,buyer,seller,bid,offer\n",
     )?;
     Ok(())
-}
-
-/// Notes the quote of a command.
-fn note_quote(markets: &mut Markets, command: &Command)
-    requires { takes_command (length markets.old) command.now ≡ true }
-    ensures { markets.new ≡ markets_after markets.old command.now }
-{
-    match command {
-        Command::Quote { market, bid, offer } => {
-            markets.set(*market, *bid, *offer);
-        }
-        _ => {}
-    }
-}
-
-/// Notes the quote of the last event of a journal.
-fn note_last(markets: &mut Markets, journal: &[Event])
-    requires { (event : Event) → slice_get journal.now (length journal.now - 1) ≡ Some event →
-        takes_command (length markets.old) event.command ≡ true }
-    ensures { (event : Event) → slice_get journal.now (length journal.now - 1) ≡ Some event →
-        markets.new ≡ markets_after markets.old event.command }
-{
-    match journal.last() {
-        Some(event) => note_quote(markets, &event.command),
-        None => {}
-    }
-}
-
-/// The markets without a quote.
-fn no_quotes(alloc: Global, config: &Config) -> Result<Markets, NoMemory>
-    requires { IsConfig config.now }
-    ensures { IfOk result (λ markets. (symbol : ℕ) → HasQuotes config.now symbol [] markets) }
-{
-    let markets = Markets::new(alloc, config.markets.len() as u32)?;
-    Ok(markets)
 }
 
 impl<K: Sink + Drop> TradeTable<K> {

@@ -3,7 +3,7 @@ use Rattle.venue_words.specs.declared.command.Command.{Command}
 use Rattle.symbol_book.specs.Commands.{takes_command}
 use Rattle.audit_tables.specs.Quotes.{markets_after}
 use Rattle.audit_tables.proofs.Quoting.{market_within, no_quote}
-use Rattle.audit_tables.proofs.trades.note_quote.Goals as goal
+use Rattle.audit_tables.proofs.quotes.note_quote.Goals as goal
 
 pub set-requires : goal.set-requires
 set-requires c =

@@ -1,7 +1,7 @@
 use Rattle.std.proofs.Common.{◌≡◌, Some, sym, ◌∙◌, subst}
 use Rattle.venue_words.specs.declared.command.Event.{Event}
 use Rattle.audit_tables.specs.Quotes.{markets_after}
-use Rattle.audit_tables.proofs.trades.note_last.Goals as goal
+use Rattle.audit_tables.proofs.quotes.note_last.Goals as goal
 
 pub note_quote-requires : goal.note_quote-requires
 note_quote-requires c = c.requires c.in-Some.event.now (sym c.in-Some.ensures.value)

@@ -1,0 +1,8 @@
+//! A symbol's book behind an event of an audited day: both sides as they queue.
+#![tactic(auto)]
+
+mod page;
+mod queues;
+mod rows;
+
+pub use rows::{BookRows, BookTable};

@@ -1,0 +1,4 @@
+mod Sorting
+mod Order
+mod Adding
+mod Numbered

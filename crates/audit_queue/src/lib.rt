@@ -1,0 +1,5 @@
+//! The queues of a book's sides.
+#![tactic(auto)]
+
+pub mod laws;
+pub mod queue;
