@@ -1,7 +1,7 @@
 -- The statuses that the program ends with.
 use Rattle.std.specs.Prelude.{ℕ}
 use Rattle.pegaudit.specs.declared.telling.Exit.{Exit}
-use Rattle.pegaudit.specs.declared.telling.Exit.TheVariants.{Done, Differs, BadWords, BadLine, Limit, ReadFault, WriteFault, NoMemory}
+use Rattle.pegaudit.specs.declared.telling.Exit.TheVariants.{Done, Differs, BadWords, BadLine, Limit, ReadFault, WriteFault, NoMemory, NotThere}
 
 abbrev pub exit_code : Exit → ℕ
 exit_code Done = 0
@@ -12,3 +12,4 @@ exit_code Limit = 4
 exit_code ReadFault = 5
 exit_code WriteFault = 6
 exit_code NoMemory = 7
+exit_code NotThere = 8

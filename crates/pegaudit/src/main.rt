@@ -1,6 +1,6 @@
 //! Audits a venue's day from its listing: `pegaudit verify CONFIG LISTING` says whether the listing is what the market's rules make
 //! of its own events, or the first line that differs; `pegaudit trades CONFIG LISTING` puts its trades as a table, and `pegaudit chart CONFIG LISTING
-//! SYMBOL` a picture of the symbol's day.
+//! SYMBOL` a picture of the symbol's day. `pegaudit book CONFIG LISTING SYMBOL EVENT` puts both sides of a symbol's book behind an event.
 #![tactic(auto)]
 
 mod telling;
@@ -8,16 +8,22 @@ mod words;
 
 ghost use Rattle.std.specs.Prelude.{◌≡◌};
 
-use crate::telling::{Exit, tell_chart, tell_refusal, tell_tabled, tell_verdict};
+use crate::telling::{
+    Exit, tell_bad_event, tell_chart, tell_explained, tell_found, tell_refusal, tell_tabled,
+    tell_unread_script, tell_verdict,
+};
 use crate::words::{Question, program, question_of};
+use audit_book::{BookRows, BookTable};
 use audit_chart::draw_day;
 use audit_core::AuditFiles;
 use audit_core::audit::audit;
+use audit_tables::asked::{self, Asked, Found};
 use audit_tables::{Table, TradeTable, tabulate};
 use clap::error::ErrorKind;
 use io_edge::{FileShelf, StreamSink};
 use program_words::WordFault;
 use program_words::arguments::arguments;
+use script_explain::explain;
 use std::marker::Brand;
 use std::process::ExitCode;
 use std::sync::ledger::{Blank, Ledger};
@@ -68,6 +74,56 @@ fn draw<L: Ledger>(
     }
 }
 
+/// Reads a script, and tells what its lines do.
+fn put_explained<L: Ledger>(rt: &HostRuntime, name: &str, steps: &mut Steps<L>) -> Exit {
+    let mut out = StreamSink::new(rt.stdout());
+    match std::fs::read(rt, name) {
+        Ok(script) => {
+            let status = explain(rt.alloc(), script.as_slice(), &mut out, steps);
+            tell_explained(rt, name, status)
+        }
+        Err(_) => tell_unread_script(rt, name),
+    }
+}
+
+/// Audits the files, and puts the book that the type stands for.
+fn put_book<A: Asked, L: Ledger>(
+    rt: &HostRuntime,
+    files: AuditFiles<'_>,
+    name: &[u8],
+    event: u32,
+    steps: &mut Steps<L>,
+) -> (Exit, Found)
+    requires name { name.now ≡ A.name }
+    requires event { event ≡ A.event }
+{
+    let question: asked::Question<'_, A> = asked::Question::new(name, event);
+    let Ok(rows) = BookRows::new(rt.alloc(), question) else {
+        return (Exit::NoMemory, Found::All);
+    };
+    match BookTable::new(rt.alloc(), rows, StreamSink::new(rt.stdout())) {
+        Ok(mut table) => {
+            let exit = put_table(rt, files, &mut table, steps);
+            (exit, table.rows().found())
+        }
+        Err(_) => (Exit::NoMemory, Found::All),
+    }
+}
+
+/// Audits the files, and puts the book of a symbol behind an event.
+fn book<L: Ledger>(
+    rt: &HostRuntime,
+    files: AuditFiles<'_>,
+    symbol: &str,
+    event: u32,
+    steps: &mut Steps<L>,
+) -> Exit {
+    match put_book::<Brand, L>(rt, files, symbol.as_bytes(), event, steps) {
+        (Exit::Done, found) => tell_found(rt, files, symbol, event, found),
+        (exit, _) => exit,
+    }
+}
+
 /// Answers a question.
 fn run<L: Ledger>(rt: &HostRuntime, question: Question<'_>, blank: Blank) -> Exit
     requires { (blank.name ≡ L.name) × (blank.parts ≡ L.parts) × (L.parts ≡ 1) }
@@ -77,6 +133,8 @@ fn run<L: Ledger>(rt: &HostRuntime, question: Question<'_>, blank: Blank) -> Exi
         Question::Verify(files) => verify(rt, files, &mut steps),
         Question::Trades(files) => put_trades(rt, files, &mut steps),
         Question::Chart(files, symbol) => draw(rt, files, symbol, &mut steps),
+        Question::Book(files, symbol, event) => book(rt, files, symbol, event, &mut steps),
+        Question::Explain(name) => put_explained(rt, name, &mut steps),
     }
 }
 
@@ -99,7 +157,7 @@ fn answer(rt: &HostRuntime, words: &[String]) -> Exit {
     };
     match question_of(&matches) {
         Some(question) => run::<Brand>(rt, question, Blank::new(1)),
-        None => Exit::BadWords,
+        None => tell_bad_event(rt),
     }
 }
 

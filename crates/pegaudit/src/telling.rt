@@ -4,7 +4,9 @@ ghost use Rattle.pegaudit.specs.Exits.{exit_code};
 
 use audit_chart::Drawn;
 use audit_core::{AuditFault, AuditFiles, AuditRefusal, Verdict};
+use audit_tables::asked::Found;
 use line_reader::ConfigFault;
+use replay_core::Status;
 use std::io::{self, Write};
 use terminal_hints::Hint;
 use venue_words::Bytes;
@@ -22,6 +24,8 @@ pub enum Exit {
     ReadFault,
     WriteFault,
     NoMemory,
+    /// The listing has no such event, or no order entered at it.
+    NotThere,
 }
 
 impl Exit {
@@ -38,6 +42,7 @@ impl Exit {
             Exit::ReadFault => 5,
             Exit::WriteFault => 6,
             Exit::NoMemory => 7,
+            Exit::NotThere => 8,
         }
     }
 
@@ -109,6 +114,92 @@ pub fn tell_chart(rt: &HostRuntime, files: AuditFiles<'_>, symbol: &str, drawn: 
         Drawn::NoSuchSymbol => told(
             eprintln!(rt; "pegaudit: {}: no symbol {symbol}", files.config),
             Exit::BadWords,
+        ),
+    }
+}
+
+/// Tells that a script could not be read, and at a terminal why.
+pub fn tell_unread_script(rt: &HostRuntime, name: &str) -> Exit {
+    let exit = told(
+        eprintln!(rt; "pegaudit: {name}: could not be read"),
+        Exit::ReadFault,
+    );
+    Hint::UnreadOf(name, name).show(rt);
+    exit
+}
+
+/// Tells how the explaining of a script ended.
+pub fn tell_explained(rt: &HostRuntime, name: &str, status: Status) -> Exit {
+    match status {
+        Status::Done => Exit::Done,
+        Status::BadWords => Exit::BadWords,
+        Status::BadLine { line, cause } => {
+            let exit = told(
+                eprintln!(rt; "pegaudit: {name}: line {line}: {cause}"),
+                Exit::BadLine,
+            );
+            Hint::BadLine {
+                file: name,
+                line,
+                cause,
+            }
+            .show(rt);
+            exit
+        }
+        Status::LimitLine { line, which } => {
+            let exit = told(
+                eprintln!(rt; "pegaudit: {name}: line {line}: limit {which}"),
+                Exit::Limit,
+            );
+            Hint::LimitLine {
+                file: name,
+                line,
+                which,
+            }
+            .show(rt);
+            exit
+        }
+        Status::ReadFault => tell_unread_script(rt, name),
+        Status::WriteFault => Exit::WriteFault,
+        Status::NoMemory => Exit::NoMemory,
+    }
+}
+
+/// Tells that EVENT is no number of an event.
+pub fn tell_bad_event(rt: &HostRuntime) -> Exit {
+    told(
+        eprintln!(rt; "pegaudit: EVENT is a number from 1 to 4294967295"),
+        Exit::BadWords,
+    )
+}
+
+/// Tells what the day does not have of that which was asked for.
+pub fn tell_found(
+    rt: &HostRuntime,
+    files: AuditFiles<'_>,
+    symbol: &str,
+    event: u32,
+    found: Found,
+) -> Exit {
+    match found {
+        Found::All => Exit::Done,
+        Found::NoSymbol => told(
+            eprintln!(rt; "pegaudit: {}: no symbol {symbol}", files.config),
+            Exit::BadWords,
+        ),
+        Found::NoEvent => told(
+            eprintln!(rt;
+                "pegaudit: {}: {symbol} has no event {event}",
+                files.listing
+            ),
+            Exit::NotThere,
+        ),
+        Found::NoOrder => told(
+            eprintln!(rt;
+                "pegaudit: {}: no order of {symbol} entered at event {event}",
+                files.listing
+            ),
+            Exit::NotThere,
         ),
     }
 }

@@ -12,6 +12,10 @@ pub enum Question<'a> {
     Trades(AuditFiles<'a>),
     /// A picture of the day of the symbol with this name.
     Chart(AuditFiles<'a>, &'a str),
+    /// What each line of the script in this file does.
+    Explain(&'a str),
+    /// The book of the symbol with this name behind an event.
+    Book(AuditFiles<'a>, &'a str, u32),
 }
 
 /// A subcommand that takes a config and a listing.
@@ -33,6 +37,27 @@ fn of_files<'a>(
     Ok(command)
 }
 
+fn symbol_word<'a>(alloc: Global) -> Arg<'a> {
+    Arg::new(alloc, "SYMBOL")
+        .required(true)
+        .help("A symbol of the config")
+}
+
+/// A subcommand that takes a symbol and the number of an event, too.
+fn of_event<'a>(
+    alloc: Global,
+    name: &'static str,
+    about: &'static str,
+) -> Result<Command<'a>, AllocError> {
+    let event = Arg::new(alloc, "EVENT")
+        .required(true)
+        .help("The number of one of the symbol's events, from 1");
+    let command = of_files(alloc, name, about)?
+        .arg(symbol_word(alloc))?
+        .arg(event)?;
+    Ok(command)
+}
+
 /// What the program can do.
 pub fn program<'a>(alloc: Global) -> Result<Command<'a>, AllocError> {
     let verify = of_files(
@@ -45,15 +70,23 @@ pub fn program<'a>(alloc: Global) -> Result<Command<'a>, AllocError> {
         "trades",
         "Verifies a listing, and puts each trade with its parties and the national quote",
     )?;
-    let symbol = Arg::new(alloc, "SYMBOL")
-        .required(true)
-        .help("A symbol of the config");
     let chart = of_files(
         alloc,
         "chart",
         "Verifies a listing, and puts a picture of a symbol's day, as SVG: quotes, trades and the shares that rest",
     )?
-    .arg(symbol)?;
+    .arg(symbol_word(alloc))?;
+    let book = of_event(
+        alloc,
+        "book",
+        "Verifies a listing, and puts both sides of a symbol's book behind an event, as they queue",
+    )?;
+    let script = Arg::new(alloc, "SCRIPT")
+        .required(true)
+        .help("A script, as pegreplay reads it");
+    let explain = Command::new(alloc, "explain")
+        .about("Tells what each line of a script does, what is sent behind it, and why nothing is")
+        .arg(script)?;
     let program = Command::new(alloc, "pegaudit")
         .no_binary_name(true)
         .version("0.1.0")
@@ -62,7 +95,9 @@ pub fn program<'a>(alloc: Global) -> Result<Command<'a>, AllocError> {
         .arg_required_else_help(true)
         .subcommand(verify)?
         .subcommand(trades)?
-        .subcommand(chart)?;
+        .subcommand(chart)?
+        .subcommand(book)?
+        .subcommand(explain)?;
     Ok(program)
 }
 
@@ -74,6 +109,23 @@ fn files_of<'a>(command: &ArgMatches<'a>) -> Option<AuditFiles<'a>> {
     })
 }
 
+/// The number of an event: digits, of which the first is no zero.
+fn event_in(text: &str) -> Option<u32> {
+    let first = *text.as_bytes().first()?;
+    if first == b'0' || !text.as_bytes().iter().all(u8::is_ascii_digit) {
+        return None;
+    }
+    text.parse::<u32>().ok()
+}
+
+/// A symbol's name and the number of an event.
+fn event_of<'a>(command: &ArgMatches<'a>) -> Option<(&'a str, u32)> {
+    Some((
+        command.get_str("SYMBOL")?,
+        event_in(command.get_str("EVENT")?)?,
+    ))
+}
+
 /// What is asked.
 pub fn question_of<'a>(matches: &ArgMatches<'a>) -> Option<Question<'a>> {
     if let Some(verify) = matches.subcommand_matches("verify") {
@@ -81,6 +133,13 @@ pub fn question_of<'a>(matches: &ArgMatches<'a>) -> Option<Question<'a>> {
     }
     if let Some(trades) = matches.subcommand_matches("trades") {
         return Some(Question::Trades(files_of(trades)?));
+    }
+    if let Some(explain) = matches.subcommand_matches("explain") {
+        return Some(Question::Explain(explain.get_str("SCRIPT")?));
+    }
+    if let Some(book) = matches.subcommand_matches("book") {
+        let (symbol, event) = event_of(book)?;
+        return Some(Question::Book(files_of(book)?, symbol, event));
     }
     let chart = matches.subcommand_matches("chart")?;
     Some(Question::Chart(files_of(chart)?, chart.get_str("SYMBOL")?))
