@@ -6,7 +6,7 @@ use std::alloc::{AllocError, Global};
 
 /// The fields of a new or replacing order as they were received, before any rule is tested.
 /// An amount counts units of 10^-8, so that 100 shares are 10,000,000,000.
-#[derive(Clone, Copy, Debug)]
+#[derive(Clone, Copy, Debug, PartialEq, Eq)]
 pub struct Terms {
     /// Side(54), its one byte.
     pub side: u8,
