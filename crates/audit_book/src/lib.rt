@@ -2,7 +2,7 @@
 #![tactic(auto)]
 
 mod page;
-mod queues;
+pub mod queues;
 mod rows;
 
 pub use rows::{BookRows, BookTable};

@@ -61,7 +61,7 @@ fn why_inactive(reference: Reference, best: Best) -> &'static [u8]
 
 /// Appends the price of a row, or why it has none.
 #[tactic(auto, unfolding(crate::specs::Resting::price_or_why))]
-fn push_price_or_why(out: &mut Vec<u8>, best: Best, x: &Priced) -> Result<(), NoMemory>
+pub fn push_price_or_why(out: &mut Vec<u8>, best: Best, x: &Priced) -> Result<(), NoMemory>
     ensures { OnOk result (out.new.items ≡ out.old.items ++ price_or_why best x.now) }
 {
     match x.price() {

@@ -1,6 +1,7 @@
 //! Audits a venue's day from its listing: `pegaudit verify CONFIG LISTING` says whether the listing is what the market's rules make
 //! of its own events, or the first line that differs; `pegaudit trades CONFIG LISTING` puts its trades as a table, and `pegaudit chart CONFIG LISTING
-//! SYMBOL` a picture of the symbol's day. `pegaudit book CONFIG LISTING SYMBOL EVENT` puts both sides of a symbol's book behind an event.
+//! SYMBOL` a picture of the symbol's day. `pegaudit book CONFIG LISTING SYMBOL EVENT` puts both sides of a symbol's book behind an event, and
+//! `pegaudit order CONFIG LISTING SYMBOL EVENT` the life of the order that entered there.
 #![tactic(auto)]
 
 mod telling;
@@ -17,6 +18,7 @@ use audit_book::{BookRows, BookTable};
 use audit_chart::draw_day;
 use audit_core::AuditFiles;
 use audit_core::audit::audit;
+use audit_order::{OrderRows, OrderTable};
 use audit_tables::asked::{self, Asked, Found};
 use audit_tables::{Table, TradeTable, tabulate};
 use clap::error::ErrorKind;
@@ -124,6 +126,44 @@ fn book<L: Ledger>(
     }
 }
 
+/// Audits the files, and puts the life of the order that the type stands for.
+fn put_order<A: Asked, L: Ledger>(
+    rt: &HostRuntime,
+    files: AuditFiles<'_>,
+    name: &[u8],
+    event: u32,
+    steps: &mut Steps<L>,
+) -> (Exit, Found)
+    requires name { name.now ≡ A.name }
+    requires event { event ≡ A.event }
+{
+    let question: asked::Question<'_, A> = asked::Question::new(name, event);
+    let Ok(rows) = OrderRows::new(rt.alloc(), question) else {
+        return (Exit::NoMemory, Found::All);
+    };
+    match OrderTable::new(rt.alloc(), rows, StreamSink::new(rt.stdout())) {
+        Ok(mut table) => {
+            let exit = put_table(rt, files, &mut table, steps);
+            (exit, table.rows().found())
+        }
+        Err(_) => (Exit::NoMemory, Found::All),
+    }
+}
+
+/// Audits the files, and puts the life of the order of a symbol that entered at an event.
+fn order<L: Ledger>(
+    rt: &HostRuntime,
+    files: AuditFiles<'_>,
+    symbol: &str,
+    event: u32,
+    steps: &mut Steps<L>,
+) -> Exit {
+    match put_order::<Brand, L>(rt, files, symbol.as_bytes(), event, steps) {
+        (Exit::Done, found) => tell_found(rt, files, symbol, event, found),
+        (exit, _) => exit,
+    }
+}
+
 /// Answers a question.
 fn run<L: Ledger>(rt: &HostRuntime, question: Question<'_>, blank: Blank) -> Exit
     requires { (blank.name ≡ L.name) × (blank.parts ≡ L.parts) × (L.parts ≡ 1) }
@@ -134,6 +174,7 @@ fn run<L: Ledger>(rt: &HostRuntime, question: Question<'_>, blank: Blank) -> Exi
         Question::Trades(files) => put_trades(rt, files, &mut steps),
         Question::Chart(files, symbol) => draw(rt, files, symbol, &mut steps),
         Question::Book(files, symbol, event) => book(rt, files, symbol, event, &mut steps),
+        Question::Order(files, symbol, event) => order(rt, files, symbol, event, &mut steps),
         Question::Explain(name) => put_explained(rt, name, &mut steps),
     }
 }

@@ -16,6 +16,8 @@ pub enum Question<'a> {
     Explain(&'a str),
     /// The book of the symbol with this name behind an event.
     Book(AuditFiles<'a>, &'a str, u32),
+    /// The life of the order of the symbol with this name that entered at an event.
+    Order(AuditFiles<'a>, &'a str, u32),
 }
 
 /// A subcommand that takes a config and a listing.
@@ -81,6 +83,11 @@ pub fn program<'a>(alloc: Global) -> Result<Command<'a>, AllocError> {
         "book",
         "Verifies a listing, and puts both sides of a symbol's book behind an event, as they queue",
     )?;
+    let order = of_event(
+        alloc,
+        "order",
+        "Verifies a listing, and puts the life of the order that entered at an event: its prices and times, its place, its trades, its end",
+    )?;
     let script = Arg::new(alloc, "SCRIPT")
         .required(true)
         .help("A script, as pegreplay reads it");
@@ -97,6 +104,7 @@ pub fn program<'a>(alloc: Global) -> Result<Command<'a>, AllocError> {
         .subcommand(trades)?
         .subcommand(chart)?
         .subcommand(book)?
+        .subcommand(order)?
         .subcommand(explain)?;
     Ok(program)
 }
@@ -140,6 +148,10 @@ pub fn question_of<'a>(matches: &ArgMatches<'a>) -> Option<Question<'a>> {
     if let Some(book) = matches.subcommand_matches("book") {
         let (symbol, event) = event_of(book)?;
         return Some(Question::Book(files_of(book)?, symbol, event));
+    }
+    if let Some(order) = matches.subcommand_matches("order") {
+        let (symbol, event) = event_of(order)?;
+        return Some(Question::Order(files_of(order)?, symbol, event));
     }
     let chart = matches.subcommand_matches("chart")?;
     Some(Question::Chart(files_of(chart)?, chart.get_str("SYMBOL")?))
