@@ -64,6 +64,7 @@ pub fn read_files<H: Shelf>(
     ensures missing { IfSome (H.told shelf.old) (λ files. named_texts files (plan_in plan.entry) ≡ None → IsErr result) }
     ensures ready { IfOk result (λ files. IsReady files.config) }
     ensures count { IfOk result (λ files. length files.feeds.items ≡ length plan.entry.feeds.now) }
+    ensures told { H.told shelf.new ≡ H.told shelf.old }
     ensures later { H.faults shelf.old ≤ H.faults shelf.new }
     ensures fault { result ≡ Err ReadRefusal.ReadFault → Rose (H.faults shelf.old) (H.faults shelf.new) }
     ensures sure { IsTrue (H.sure shelf.old) → HasNamed (H.told shelf.old) (plan_in plan.entry) → result ≢ Err ReadRefusal.ReadFault }

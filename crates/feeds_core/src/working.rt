@@ -50,7 +50,7 @@ fn commands_of(
 }
 
 /// The lists of feeds, unless a line is refused or a symbol has too many commands.
-fn lists_of<R: Threads + Sync>(
+pub fn lists_of<R: Threads + Sync>(
     rt: &R,
     alloc: Global,
     config: &Config,

@@ -1,0 +1,2 @@
+mod Sameness
+mod Straying

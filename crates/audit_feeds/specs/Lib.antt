@@ -1,0 +1,4 @@
+pub mod Alike
+pub mod Strays
+pub mod FeedsText
+pub mod Days

@@ -1,0 +1,8 @@
+//! Whether the journals of an audited day are what its feeds ask: each holds the commands of each feed for its symbol, once and in the
+//! feed's order, and nothing else.
+#![tactic(auto)]
+
+mod alike;
+mod rows;
+mod strays;
+mod text;
