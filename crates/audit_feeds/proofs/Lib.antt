@@ -1,2 +1,5 @@
+mod Days
+mod Putting
+mod Refusals
 mod Sameness
 mod Straying

@@ -3,6 +3,11 @@
 #![tactic(auto)]
 
 mod alike;
+mod auditing;
+mod lists;
 mod rows;
 mod strays;
+mod telling;
 mod text;
+
+pub use auditing::{FeedsRefusal, FeedsVerdict, audit_feeds};
