@@ -1,24 +1,32 @@
 //! Audits a venue's day from its listing: `pegaudit verify CONFIG LISTING` says whether the listing is what the market's rules make
-//! of its own events, or the first line that differs; `pegaudit trades CONFIG LISTING` puts its trades as a table, and `pegaudit chart CONFIG LISTING
+//! of its own events, or the first line that differs, and with feeds behind it whether these events are what the feeds ask; `pegaudit trades CONFIG LISTING` puts its trades as a table,
+//! `pegaudit summary CONFIG LISTING` what each member did in each symbol, and `pegaudit chart CONFIG LISTING
 //! SYMBOL` a picture of the symbol's day. `pegaudit book CONFIG LISTING SYMBOL EVENT` puts both sides of a symbol's book behind an event, and
 //! `pegaudit order CONFIG LISTING SYMBOL EVENT` the life of the order that entered there.
 #![tactic(auto)]
 
+mod exit;
+mod refusals;
 mod telling;
 mod words;
 
-ghost use Rattle.std.specs.Prelude.{◌≡◌};
+ghost use Rattle.std.specs.Prelude.{◌≡◌, ◌≤◌, length};
+ghost use Rattle.venue_words.specs.declared.limits.TheConstants.{MAX_FEEDS};
 
+use crate::exit::Exit;
+use crate::refusals::{tell_explained, tell_feeds_refusal, tell_refusal, tell_unread_script};
 use crate::telling::{
-    Exit, tell_bad_event, tell_chart, tell_explained, tell_found, tell_refusal, tell_tabled,
-    tell_unread_script, tell_verdict,
+    tell_bad_event, tell_chart, tell_feeds_verdict, tell_found, tell_many_feeds, tell_tabled,
+    tell_verdict,
 };
 use crate::words::{Question, program, question_of};
 use audit_book::{BookRows, BookTable};
 use audit_chart::draw_day;
 use audit_core::AuditFiles;
 use audit_core::audit::audit;
+use audit_feeds::audit_feeds;
 use audit_order::{OrderRows, OrderTable};
+use audit_summary::{SummaryRows, SummaryTable};
 use audit_tables::asked::{self, Asked, Found};
 use audit_tables::{Table, TradeTable, tabulate};
 use clap::error::ErrorKind;
@@ -29,7 +37,9 @@ use script_explain::explain;
 use std::marker::Brand;
 use std::process::ExitCode;
 use std::sync::ledger::{Blank, Ledger};
+use std::thread::Threads;
 use venue_words::Steps;
+use venue_words::limits::MAX_FEEDS;
 
 /// Audits the files, and tells what came of it.
 fn verify<L: Ledger>(rt: &HostRuntime, files: AuditFiles<'_>, steps: &mut Steps<L>) -> Exit {
@@ -38,6 +48,40 @@ fn verify<L: Ledger>(rt: &HostRuntime, files: AuditFiles<'_>, steps: &mut Steps<
         Ok(verdict) => tell_verdict(rt, files, verdict),
         Err(refusal) => tell_refusal(rt, files, refusal),
     }
+}
+
+/// Audits the files beside feeds, and tells what came of it.
+fn verify_feeds<R: Threads + Sync, L: Ledger>(
+    threads: &R,
+    rt: &HostRuntime,
+    files: AuditFiles<'_>,
+    feeds: &[&str],
+    steps: &mut Steps<L>,
+) -> Exit
+    requires { length feeds.now ≤ MAX_FEEDS }
+{
+    let mut shelf = FileShelf::new(rt);
+    match audit_feeds(threads, rt.alloc(), files, feeds, &mut shelf, steps) {
+        Ok(verdict) => tell_feeds_verdict(rt, files, verdict),
+        Err(refusal) => tell_feeds_refusal(rt, files, feeds, refusal),
+    }
+}
+
+/// Audits the files, and the feeds where some are named, and tells what came of it.
+fn verify_all<R: Threads + Sync, L: Ledger>(
+    threads: &R,
+    rt: &HostRuntime,
+    files: AuditFiles<'_>,
+    feeds: &[&str],
+    steps: &mut Steps<L>,
+) -> Exit {
+    if feeds.is_empty() {
+        return verify(rt, files, steps);
+    }
+    if MAX_FEEDS < feeds.len() {
+        return tell_many_feeds(rt);
+    }
+    verify_feeds(threads, rt, files, feeds, steps)
 }
 
 /// Audits the files, and puts a table of the day.
@@ -57,6 +101,15 @@ fn put_table<T: Table, L: Ledger>(
 /// Audits the files, and puts the table of its trades.
 fn put_trades<L: Ledger>(rt: &HostRuntime, files: AuditFiles<'_>, steps: &mut Steps<L>) -> Exit {
     match TradeTable::new(rt.alloc(), StreamSink::new(rt.stdout())) {
+        Ok(mut table) => put_table(rt, files, &mut table, steps),
+        Err(_) => Exit::NoMemory,
+    }
+}
+
+/// Audits the files, and puts what each member did in each symbol.
+fn put_summary<L: Ledger>(rt: &HostRuntime, files: AuditFiles<'_>, steps: &mut Steps<L>) -> Exit {
+    let rows = SummaryRows::new(rt.alloc());
+    match SummaryTable::new(rt.alloc(), rows, StreamSink::new(rt.stdout())) {
         Ok(mut table) => put_table(rt, files, &mut table, steps),
         Err(_) => Exit::NoMemory,
     }
@@ -165,13 +218,19 @@ fn order<L: Ledger>(
 }
 
 /// Answers a question.
-fn run<L: Ledger>(rt: &HostRuntime, question: Question<'_>, blank: Blank) -> Exit
+fn run<R: Threads + Sync, L: Ledger>(
+    threads: &R,
+    rt: &HostRuntime,
+    question: Question<'_, '_>,
+    blank: Blank,
+) -> Exit
     requires { (blank.name ≡ L.name) × (blank.parts ≡ L.parts) × (L.parts ≡ 1) }
 {
     let mut steps: Steps<L> = Steps::start(blank);
     match question {
-        Question::Verify(files) => verify(rt, files, &mut steps),
+        Question::Verify(files, feeds) => verify_all(threads, rt, files, feeds, &mut steps),
         Question::Trades(files) => put_trades(rt, files, &mut steps),
+        Question::Summary(files) => put_summary(rt, files, &mut steps),
         Question::Chart(files, symbol) => draw(rt, files, symbol, &mut steps),
         Question::Book(files, symbol, event) => book(rt, files, symbol, event, &mut steps),
         Question::Order(files, symbol, event) => order(rt, files, symbol, event, &mut steps),
@@ -180,7 +239,7 @@ fn run<L: Ledger>(rt: &HostRuntime, question: Question<'_>, blank: Blank) -> Exi
 }
 
 /// Reads the words, and does what they ask for.
-fn answer(rt: &HostRuntime, words: &[String]) -> Exit {
+fn answer<R: Threads + Sync>(threads: &R, rt: &HostRuntime, words: &[String]) -> Exit {
     let Ok(command) = program(rt.alloc()) else {
         return Exit::NoMemory;
     };
@@ -197,14 +256,14 @@ fn answer(rt: &HostRuntime, words: &[String]) -> Exit {
         }
     };
     match question_of(&matches) {
-        Some(question) => run::<Brand>(rt, question, Blank::new(1)),
+        Some(question) => run::<R, Brand>(threads, rt, question, Blank::new(1)),
         None => tell_bad_event(rt),
     }
 }
 
 fn main(rt: HostRuntime) -> ExitCode {
     let exit = match arguments(&rt) {
-        Ok(words) => answer(&rt, words.as_slice()),
+        Ok(words) => answer(&rt, &rt, words.as_slice()),
         Err(WordFault::BadWords) => Exit::BadWords,
         Err(WordFault::NoMemory) => Exit::NoMemory,
     };

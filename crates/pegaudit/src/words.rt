@@ -5,11 +5,13 @@ use std::alloc::{AllocError, Global};
 
 /// What is asked, and of which files.
 #[derive(Clone, Copy, Debug)]
-pub enum Question<'a> {
-    /// Whether the listing is what the market's rules make of its own events.
-    Verify(AuditFiles<'a>),
+pub enum Question<'m, 'a> {
+    /// Whether the listing is what the market's rules make of its own events, and these are what the feeds ask, where some are named.
+    Verify(AuditFiles<'a>, &'m [&'a str]),
     /// Its trades.
     Trades(AuditFiles<'a>),
+    /// What each member did in each symbol.
+    Summary(AuditFiles<'a>),
     /// A picture of the day of the symbol with this name.
     Chart(AuditFiles<'a>, &'a str),
     /// What each line of the script in this file does.
@@ -66,11 +68,21 @@ pub fn program<'a>(alloc: Global) -> Result<Command<'a>, AllocError> {
         alloc,
         "verify",
         "Says whether a listing is what the market's rules make of its own events, or the first line that differs",
+    )?
+    .arg(
+        Arg::new(alloc, "FEED").num_args(0..).help(
+            "The feeds of the day, as pegvenue had them: whether the listing's events are what they ask",
+        ),
     )?;
     let trades = of_files(
         alloc,
         "trades",
         "Verifies a listing, and puts each trade with its parties and the national quote",
+    )?;
+    let summary = of_files(
+        alloc,
+        "summary",
+        "Verifies a listing, and puts what each member did in each symbol: events, trades, shares, what rests, what was rejected by which rule",
     )?;
     let chart = of_files(
         alloc,
@@ -102,6 +114,7 @@ pub fn program<'a>(alloc: Global) -> Result<Command<'a>, AllocError> {
         .arg_required_else_help(true)
         .subcommand(verify)?
         .subcommand(trades)?
+        .subcommand(summary)?
         .subcommand(chart)?
         .subcommand(book)?
         .subcommand(order)?
@@ -135,12 +148,16 @@ fn event_of<'a>(command: &ArgMatches<'a>) -> Option<(&'a str, u32)> {
 }
 
 /// What is asked.
-pub fn question_of<'a>(matches: &ArgMatches<'a>) -> Option<Question<'a>> {
+pub fn question_of<'m, 'a>(matches: &'m ArgMatches<'a>) -> Option<Question<'m, 'a>> {
     if let Some(verify) = matches.subcommand_matches("verify") {
-        return Some(Question::Verify(files_of(verify)?));
+        let feeds = verify.get_strs("FEED").unwrap_or(&[]);
+        return Some(Question::Verify(files_of(verify)?, feeds));
     }
     if let Some(trades) = matches.subcommand_matches("trades") {
         return Some(Question::Trades(files_of(trades)?));
+    }
+    if let Some(summary) = matches.subcommand_matches("summary") {
+        return Some(Question::Summary(files_of(summary)?));
     }
     if let Some(explain) = matches.subcommand_matches("explain") {
         return Some(Question::Explain(explain.get_str("SCRIPT")?));
