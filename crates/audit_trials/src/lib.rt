@@ -5,6 +5,8 @@
 #[cfg(test)]
 mod books;
 #[cfg(test)]
+mod summaries;
+#[cfg(test)]
 mod tables;
 #[cfg(test)]
 mod tests;

@@ -1,0 +1,4 @@
+pub mod Counting
+pub mod Columns
+pub mod Summaries
+pub mod Sums

@@ -1,0 +1,37 @@
+//! What each member did in each symbol, counted.
+ghost use Rattle.std.specs.Prelude.{◌≡◌};
+
+use crate::books::{FILES, day_shelf};
+use audit_core::Verdict;
+use audit_summary::{SummaryRows, SummaryTable};
+use audit_tables::tabulate;
+use io_edge::MemSink;
+use std::alloc::Global;
+use std::marker::Brand;
+use std::process::Abort;
+use std::sync::ledger::{Blank, Ledger};
+use std::test::Fail;
+use venue_words::Steps;
+
+const SUMMARY: &[u8] =
+    b"symbol,member,events,accepted,trades,shares,resting_orders,resting_shares,rejected_1,rejected_2,rejected_3,rejected_4,rejected_5,rejected_6,rejected_7,rejected_8,rejected_9,rejected_10,rejected_11,rejected_12,rejected_13,rejected_14,rejected_15,rejected_16,rejected_17,rejected_18\nACME,FUND,1,1,0,0,1,300,0,0,0,0,0,0,0,0,0,0,0,0,0,0,0,0,0,0\nACME,DESK,1,1,1,100,1,50,0,0,0,0,0,0,0,0,0,0,0,0,0,0,0,0,0,0\nACME,BANK,2,2,1,100,1,100,0,0,0,0,0,0,0,0,0,0,0,0,0,0,0,0,0,0\n";
+
+fn look_at_summary<L: Ledger>(rt: &impl Abort, alloc: Global, blank: Blank) -> Result<(), Fail>
+    requires name { blank.name ≡ L.name }
+    requires parts { blank.parts ≡ L.parts }
+    requires one { blank.parts ≡ 1 }
+{
+    let mut steps = Steps::<L>::start(blank);
+    let mut shelf = day_shelf(alloc)?;
+    let rows = SummaryRows::new(alloc);
+    let mut table = SummaryTable::new(alloc, rows, MemSink::new(alloc, Vec::new(alloc)))?;
+    let found = tabulate(alloc, FILES, &mut shelf, &mut table, &mut steps);
+    assert!(rt; matches!(found, Ok(Verdict::Same)));
+    assert_eq!(rt; table.into_out().bytes(), SUMMARY);
+    Ok(())
+}
+
+#[test]
+fn what_each_member_did_is_counted(rt: HostRuntime) -> Result<(), Fail> {
+    look_at_summary::<Brand>(&rt, rt.alloc(), Blank::new(1))
+}
