@@ -43,7 +43,8 @@ const BEHIND_REPRICE: &[u8] =
 const BEHIND_LOCK: &[u8] =
     b"ACME behind event 7 at 14:30:04.000: bid 50.0200, offer 50.0200\nbuys           since                  entered                leaves     minimum    member\n50.0200        7        14:30:04.000  3        14:30:01.000  100        -          BANK\n50.0100        4        14:30:02.000  4        14:30:02.000  50         -          DESK\nlocked quote   7        14:30:04.000  2        14:30:01.000  300        200        FUND\nsells          since                  entered                leaves     minimum    member\n";
 
-pub(crate) fn day_shelf(alloc: Global) -> Result<MemShelf, Fail> {
+/// The config and the listing of the day.
+pub(crate) fn day_files(alloc: Global) -> Result<Vec<(String, Vec<u8>)>, Fail> {
     let mut config = Vec::new(alloc);
     config.extend_from_slice(CONFIG)?;
     let mut listing = Vec::new(alloc);
@@ -53,7 +54,11 @@ pub(crate) fn day_shelf(alloc: Global) -> Result<MemShelf, Fail> {
     let mut files = Vec::new(alloc);
     files.push((String::from_str(alloc, "c")?, config))?;
     files.push((String::from_str(alloc, "l")?, listing))?;
-    Ok(MemShelf::new(files, 1_000, Vec::new(alloc)))
+    Ok(files)
+}
+
+pub(crate) fn day_shelf(alloc: Global) -> Result<MemShelf, Fail> {
+    Ok(MemShelf::new(day_files(alloc)?, 1_000, Vec::new(alloc)))
 }
 
 pub(crate) const FILES: AuditFiles<'static> = AuditFiles {

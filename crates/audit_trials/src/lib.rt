@@ -5,6 +5,10 @@
 #[cfg(test)]
 mod books;
 #[cfg(test)]
+mod feeds;
+#[cfg(test)]
+mod orders;
+#[cfg(test)]
 mod summaries;
 #[cfg(test)]
 mod tables;
