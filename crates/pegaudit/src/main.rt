@@ -19,7 +19,7 @@ use crate::telling::{
     tell_bad_event, tell_chart, tell_feeds_verdict, tell_found, tell_many_feeds, tell_tabled,
     tell_verdict,
 };
-use crate::words::{Question, program, question_of};
+use crate::words::{Question, feeds_of, program, question_of};
 use audit_book::{BookRows, BookTable};
 use audit_chart::draw_day;
 use audit_core::AuditFiles;
@@ -221,14 +221,15 @@ fn order<L: Ledger>(
 fn run<R: Threads + Sync, L: Ledger>(
     threads: &R,
     rt: &HostRuntime,
-    question: Question<'_, '_>,
+    question: Question<'_>,
+    feeds: &[&str],
     blank: Blank,
 ) -> Exit
     requires { (blank.name ≡ L.name) × (blank.parts ≡ L.parts) × (L.parts ≡ 1) }
 {
     let mut steps: Steps<L> = Steps::start(blank);
     match question {
-        Question::Verify(files, feeds) => verify_all(threads, rt, files, feeds, &mut steps),
+        Question::Verify(files) => verify_all(threads, rt, files, feeds, &mut steps),
         Question::Trades(files) => put_trades(rt, files, &mut steps),
         Question::Summary(files) => put_summary(rt, files, &mut steps),
         Question::Chart(files, symbol) => draw(rt, files, symbol, &mut steps),
@@ -256,7 +257,10 @@ fn answer<R: Threads + Sync>(threads: &R, rt: &HostRuntime, words: &[String]) ->
         }
     };
     match question_of(&matches) {
-        Some(question) => run::<R, Brand>(threads, rt, question, Blank::new(1)),
+        Some(question) => {
+            let feeds = feeds_of(&matches).unwrap_or(&[]);
+            run::<R, Brand>(threads, rt, question, feeds, Blank::new(1))
+        }
         None => tell_bad_event(rt),
     }
 }

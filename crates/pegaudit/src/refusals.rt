@@ -125,8 +125,8 @@ fn tell_feeds_status(
         }
         FeedsStatus::Full { symbol } => told(
             eprintln!(rt;
-                "pegaudit: the feeds have more commands for symbol {symbol} of {}, counted from 0, than its limit",
-                files.config
+                "pegaudit: {}: the feeds have more commands for the symbol of SYMBOL line {}, counted from 0, than its limit",
+                files.config, symbol
             ),
             Exit::Limit,
         ),

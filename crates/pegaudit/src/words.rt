@@ -5,9 +5,9 @@ use std::alloc::{AllocError, Global};
 
 /// What is asked, and of which files.
 #[derive(Clone, Copy, Debug)]
-pub enum Question<'m, 'a> {
+pub enum Question<'a> {
     /// Whether the listing is what the market's rules make of its own events, and these are what the feeds ask, where some are named.
-    Verify(AuditFiles<'a>, &'m [&'a str]),
+    Verify(AuditFiles<'a>),
     /// Its trades.
     Trades(AuditFiles<'a>),
     /// What each member did in each symbol.
@@ -147,11 +147,15 @@ fn event_of<'a>(command: &ArgMatches<'a>) -> Option<(&'a str, u32)> {
     ))
 }
 
+/// The feeds that are named behind a listing.
+pub fn feeds_of<'m, 'a>(matches: &'m ArgMatches<'a>) -> Option<&'m [&'a str]> {
+    matches.subcommand_matches("verify")?.get_strs("FEED")
+}
+
 /// What is asked.
-pub fn question_of<'m, 'a>(matches: &'m ArgMatches<'a>) -> Option<Question<'m, 'a>> {
+pub fn question_of<'a>(matches: &ArgMatches<'a>) -> Option<Question<'a>> {
     if let Some(verify) = matches.subcommand_matches("verify") {
-        let feeds = verify.get_strs("FEED").unwrap_or(&[]);
-        return Some(Question::Verify(files_of(verify)?, feeds));
+        return Some(Question::Verify(files_of(verify)?));
     }
     if let Some(trades) = matches.subcommand_matches("trades") {
         return Some(Question::Trades(files_of(trades)?));
