@@ -11,7 +11,6 @@ use Rattle.eager_meaning.specs.Interleaving.{Interleaves, Timed}
 use Rattle.line_work.specs.Commands.{commands}
 use Rattle.feed_work.specs.Feeds.{Asked, commands_at}
 use Rattle.listing.specs.Listing.{Part}
-use Rattle.feeds_core.specs.FeedFiles.{texts_named}
 use Rattle.feeds_core.specs.FeedLists.{asked_in}
 use Rattle.feeds_core.specs.FeedRuns.{AreJournalsOf}
 use Rattle.feeds_core.specs.declared.feed_list.FeedList.{FeedList}

@@ -1,5 +1,5 @@
 -- When two commands are the same.
-use Rattle.std.specs.Prelude.{ℕ, Bool, false, ◌&&◌, ◌==◌, nat_eq, List}
+use Rattle.std.specs.Prelude.{Bool, false, ◌&&◌, ◌==◌, nat_eq}
 use Rattle.std.specs.Option.{option_eq}
 use Rattle.std.specs.Ordering.{int_eq}
 use Rattle.std.specs.Str.{bytes_eq}

@@ -1,5 +1,5 @@
 -- Where a symbol's journal is not what its feeds ask.
-use Rattle.std.specs.Prelude.{◌≡◌, ℕ, ◌+◌, ◌==◌, Bool, not, ◌&&◌, nat_le, if◌then◌else◌, List, [], ◌∷◌, filter, find, Option, Some, None}
+use Rattle.std.specs.Prelude.{ℕ, ◌+◌, ◌==◌, Bool, not, ◌&&◌, nat_le, if◌then◌else◌, List, [], ◌∷◌, filter, find, Option, Some, None}
 use Rattle.venue_words.specs.declared.command.Event.{Event}
 use Rattle.eager_meaning.specs.Interleaving.{Timed}
 use Rattle.audit_feeds.specs.Alike.{is_command}

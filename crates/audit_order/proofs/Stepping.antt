@@ -1,5 +1,5 @@
 -- What is kept of the order behind one more event.
-use Rattle.std.proofs.Common.{◌≡◌, ◌≤◌, ◌<◌, ◌⊎◌, inl, inr, ℕ, zero, suc, ◌+◌, ◌-◌, ◌==◌, Bool, true, false, cond, List, [], ◌∷◌, ◌++◌, length, take, Option, Some, None, refl, sym, ◌∙◌, ap, subst, arith}
+use Rattle.std.proofs.Common.{◌≡◌, ◌≤◌, ◌<◌, inl, inr, ℕ, zero, suc, ◌+◌, ◌-◌, ◌==◌, Bool, true, false, cond, List, [], ◌∷◌, ◌++◌, length, take, Option, Some, None, refl, sym, ◌∙◌, ap, subst, arith}
 use Rattle.std.specs.Prelude.{nat_lt}
 use Rattle.std.proofs.lemmas.Bool.{cases_order}
 use Rattle.std.proofs.lemmas.List.{length-append, take-append-le, take_all}
@@ -8,7 +8,7 @@ use Rattle.venue_words.specs.declared.config.Config.{Config}
 use Rattle.venue_words.specs.declared.row.Priced.{Priced}
 use Rattle.eager_meaning.specs.Step.{Run, runs}
 use Rattle.symbol_book.specs.Book.{BookView}
-use Rattle.audit_core.specs.Audited.{run_of, tick_at}
+use Rattle.audit_core.specs.Audited.{run_of}
 use Rattle.audit_core.specs.Telling.{IsBookOf, IsNext}
 use Rattle.audit_order.specs.Standing.{Keeps, before_after, number_after, number_at, order_count, rests_in, standing}
 use Rattle.audit_order.specs.declared.following.Followed.{Followed}

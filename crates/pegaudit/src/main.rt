@@ -6,6 +6,7 @@
 #![tactic(auto)]
 
 mod exit;
+mod progress;
 mod refusals;
 mod telling;
 mod words;
@@ -14,6 +15,7 @@ ghost use Rattle.std.specs.Prelude.{◌≡◌, ◌≤◌, length};
 ghost use Rattle.venue_words.specs.declared.limits.TheConstants.{MAX_FEEDS};
 
 use crate::exit::Exit;
+use crate::progress::shelf_of;
 use crate::refusals::{tell_explained, tell_feeds_refusal, tell_refusal, tell_unread_script};
 use crate::telling::{
     tell_bad_event, tell_chart, tell_feeds_verdict, tell_found, tell_many_feeds, tell_tabled,
@@ -30,7 +32,7 @@ use audit_summary::{SummaryRows, SummaryTable};
 use audit_tables::asked::{self, Asked, Found};
 use audit_tables::{Table, TradeTable, tabulate};
 use clap::error::ErrorKind;
-use io_edge::{FileShelf, StreamSink};
+use io_edge::StreamSink;
 use program_words::WordFault;
 use program_words::arguments::arguments;
 use script_explain::explain;
@@ -43,7 +45,7 @@ use venue_words::limits::MAX_FEEDS;
 
 /// Audits the files, and tells what came of it.
 fn verify<L: Ledger>(rt: &HostRuntime, files: AuditFiles<'_>, steps: &mut Steps<L>) -> Exit {
-    let mut shelf = FileShelf::new(rt);
+    let mut shelf = shelf_of(rt);
     match audit(rt.alloc(), files, &mut shelf, steps) {
         Ok(verdict) => tell_verdict(rt, files, verdict),
         Err(refusal) => tell_refusal(rt, files, refusal),
@@ -60,7 +62,7 @@ fn verify_feeds<R: Threads + Sync, L: Ledger>(
 ) -> Exit
     requires { length feeds.now ≤ MAX_FEEDS }
 {
-    let mut shelf = FileShelf::new(rt);
+    let mut shelf = shelf_of(rt);
     match audit_feeds(threads, rt.alloc(), files, feeds, &mut shelf, steps) {
         Ok(verdict) => tell_feeds_verdict(rt, files, verdict),
         Err(refusal) => tell_feeds_refusal(rt, files, feeds, refusal),
@@ -91,7 +93,7 @@ fn put_table<T: Table, L: Ledger>(
     table: &mut T,
     steps: &mut Steps<L>,
 ) -> Exit {
-    let mut shelf = FileShelf::new(rt);
+    let mut shelf = shelf_of(rt);
     match tabulate(rt.alloc(), files, &mut shelf, table, steps) {
         Ok(verdict) => tell_tabled(rt, files, verdict),
         Err(refusal) => tell_refusal(rt, files, refusal),
@@ -122,7 +124,7 @@ fn draw<L: Ledger>(
     symbol: &str,
     steps: &mut Steps<L>,
 ) -> Exit {
-    let mut shelf = FileShelf::new(rt);
+    let mut shelf = shelf_of(rt);
     match draw_day(rt.alloc(), files, symbol, &mut shelf, steps) {
         Ok(drawn) => tell_chart(rt, files, symbol, drawn),
         Err(refusal) => tell_refusal(rt, files, refusal),

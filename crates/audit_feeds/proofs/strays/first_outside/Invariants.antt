@@ -1,5 +1,5 @@
 -- Every event so far is of a feed.
-use Rattle.std.proofs.Common.{◌≡◌, ◌≤◌, ◌+◌, length}
+use Rattle.std.proofs.Common.{◌≡◌, length}
 use Rattle.audit_feeds.specs.Strays.{first_outside}
 use Rattle.audit_feeds.proofs.strays.first_outside.Given as goal
 

@@ -1,5 +1,5 @@
 -- No command so far is for the symbol.
-use Rattle.std.proofs.Common.{◌≡◌, ◌≤◌, ◌+◌, length}
+use Rattle.std.proofs.Common.{◌≡◌, length}
 use Rattle.feed_work.specs.Feeds.{commands_at}
 use Rattle.audit_feeds.proofs.strays.next_command.Given as goal
 

@@ -1,5 +1,5 @@
 -- No event so far is of the feed.
-use Rattle.std.proofs.Common.{◌≡◌, ◌≤◌, ◌+◌, length}
+use Rattle.std.proofs.Common.{◌≡◌, ◌≤◌, length}
 use Rattle.audit_feeds.specs.Strays.{events_of}
 use Rattle.audit_feeds.proofs.strays.next_event.Given as goal
 
