@@ -16,21 +16,21 @@ use Rattle.feeds_core.specs.FeedRuns.{AreJournalsOf}
 use Rattle.feeds_core.specs.declared.feed_list.FeedList.{FeedList}
 use Rattle.audit_core.specs.Audited.{HasConfig}
 use Rattle.audit_core.specs.Telling.{day_text_from, events_text, journal_text}
-use Rattle.audit_feeds.specs.Days.{AreListsOf, IsDay, IsDayOfFeeds, StraysFromFeeds, TellsStrays}
-use Rattle.audit_feeds.specs.FeedsText.{strays_telling, strays_text}
-use Rattle.audit_feeds.proofs.Straying.{interleaves, nothing_told}
+use Rattle.audit_feeds.specs.Days.{AreListsOf, IsDay, IsDayOfFeeds, DepartsFromFeeds, TellsDepartures}
+use Rattle.audit_feeds.specs.FeedsText.{departures_telling, departures_text}
+use Rattle.audit_feeds.proofs.Departing.{interleaves, nothing_told}
 
 abbrev journal_of : Part → List Event
 journal_of part = part.journal
 
-events_none : (feeds : List (List Asked)) (config : Config) (symbol : ℕ) (before events : List Event) → events_text (strays_telling feeds) config symbol before events ≡ []
+events_none : (feeds : List (List Asked)) (config : Config) (symbol : ℕ) (before events : List Event) → events_text (departures_telling feeds) config symbol before events ≡ []
 events_none feeds config symbol before [] = refl
 events_none feeds config symbol before (event ∷ later) = events_none feeds config symbol (before ++ event ∷ []) later
 
 journal_is : (feeds : List (List Asked)) (config : Config) (symbol : ℕ) (journal : List Event)
-    → journal_text (strays_telling feeds) config symbol journal ≡ strays_text feeds config symbol journal
+    → journal_text (departures_telling feeds) config symbol journal ≡ departures_text feeds config symbol journal
 journal_is feeds config symbol journal =
-    ap (λ (text : List ℕ). text ++ strays_text feeds config symbol journal) (events_none feeds config symbol [] journal)
+    ap (λ (text : List ℕ). text ++ departures_text feeds config symbol journal) (events_none feeds config symbol [] journal)
 
 first_none : (xs ys : List ℕ) → xs ++ ys ≡ [] → xs ≡ []
 first_none [] ys e = refl
@@ -40,52 +40,52 @@ second_none : (xs ys : List ℕ) → xs ++ ys ≡ [] → ys ≡ []
 second_none [] ys e = e
 second_none (x ∷ xs) ys e = absurd (cc)
 
-told_at : (feeds : List (List Asked)) (config : Config) (symbol : ℕ) (parts : List Part) → day_text_from (strays_telling feeds) config symbol parts ≡ []
-    → (k : ℕ) (journal : List Event) → slice_get (map journal_of parts) k ≡ Some journal → strays_text feeds config (symbol + k) journal ≡ []
+told_at : (feeds : List (List Asked)) (config : Config) (symbol : ℕ) (parts : List Part) → day_text_from (departures_telling feeds) config symbol parts ≡ []
+    → (k : ℕ) (journal : List Event) → slice_get (map journal_of parts) k ≡ Some journal → departures_text feeds config (symbol + k) journal ≡ []
 told_at feeds config symbol [] e k journal at = absurd (cc)
 told_at feeds config symbol (part ∷ parts) e zero journal at =
     let same : part.journal ≡ journal = cc in
     let place : symbol + 0 ≡ symbol = omega arith in
-    ap (λ (s : ℕ). strays_text feeds config s journal) place
-    ∙ ap (λ (j : List Event). strays_text feeds config symbol j) (sym same)
+    ap (λ (s : ℕ). departures_text feeds config s journal) place
+    ∙ ap (λ (j : List Event). departures_text feeds config symbol j) (sym same)
     ∙ sym (journal_is feeds config symbol part.journal)
-    ∙ first_none (journal_text (strays_telling feeds) config symbol part.journal) (day_text_from (strays_telling feeds) config (symbol + 1) parts) e
+    ∙ first_none (journal_text (departures_telling feeds) config symbol part.journal) (day_text_from (departures_telling feeds) config (symbol + 1) parts) e
 told_at feeds config symbol (part ∷ parts) e (suc k) journal at =
     let place : symbol + suc k ≡ (symbol + 1) + k = omega arith in
-    ap (λ (s : ℕ). strays_text feeds config s journal) place
+    ap (λ (s : ℕ). departures_text feeds config s journal) place
     ∙ told_at feeds config (symbol + 1) parts
-    (second_none (journal_text (strays_telling feeds) config symbol part.journal) (day_text_from (strays_telling feeds) config (symbol + 1) parts) e) k journal at
+    (second_none (journal_text (departures_telling feeds) config symbol part.journal) (day_text_from (departures_telling feeds) config (symbol + 1) parts) e) k journal at
 
 told_from : (feeds : List (List Asked)) (config : Config) (symbol : ℕ) (parts : List Part)
-    → ((k : ℕ) (journal : List Event) → slice_get (map journal_of parts) k ≡ Some journal → strays_text feeds config (symbol + k) journal ≡ [])
-    → day_text_from (strays_telling feeds) config symbol parts ≡ []
+    → ((k : ℕ) (journal : List Event) → slice_get (map journal_of parts) k ≡ Some journal → departures_text feeds config (symbol + k) journal ≡ [])
+    → day_text_from (departures_telling feeds) config symbol parts ≡ []
 told_from feeds config symbol [] none = refl
 told_from feeds config symbol (part ∷ parts) none =
     let place : symbol ≡ symbol + 0 = omega arith in
-    ap (λ (text : List ℕ). text ++ day_text_from (strays_telling feeds) config (symbol + 1) parts)
-    (journal_is feeds config symbol part.journal ∙ ap (λ (s : ℕ). strays_text feeds config s part.journal) place ∙ none 0 part.journal refl)
+    ap (λ (text : List ℕ). text ++ day_text_from (departures_telling feeds) config (symbol + 1) parts)
+    (journal_is feeds config symbol part.journal ∙ ap (λ (s : ℕ). departures_text feeds config s part.journal) place ∙ none 0 part.journal refl)
     ∙ told_from feeds config (symbol + 1) parts (λ k journal at.
     let next : (symbol + 1) + k ≡ symbol + suc k = omega arith in
-    ap (λ (s : ℕ). strays_text feeds config s journal) next ∙ none (suc k) journal at)
+    ap (λ (s : ℕ). departures_text feeds config s journal) next ∙ none (suc k) journal at)
 
 module _ (feeds : List (List Asked)) (config : Config) (texts : List (List ℕ)) (parts : List Part) (lists : (symbol : ℕ) → map (commands_at symbol) feeds ≡ map (λ text. commands config text symbol) texts) where
   -- where nothing is told
-  pub all_interleave : length parts ≡ length config.symbols → day_text_from (strays_telling feeds) config 0 parts ≡ []
+  pub all_interleave : length parts ≡ length config.symbols → day_text_from (departures_telling feeds) config 0 parts ≡ []
       → AreJournalsOf config texts (map (λ part. part.journal) parts)
   all_interleave each none = record {
     each = length-map parts journal_of ∙ each;
     interleaved = λ symbol journal at.
         subst (λ (l : List (List Timed)). Interleaves journal l) (lists symbol) (interleaves feeds config symbol journal
         (let here : symbol ≡ 0 + symbol = omega arith in
-        ap (λ (s : ℕ). strays_text feeds config s journal) here ∙ told_at feeds config 0 parts none symbol journal at));
+        ap (λ (s : ℕ). departures_text feeds config s journal) here ∙ told_at feeds config 0 parts none symbol journal at));
   }
 
   -- and where something is
-  pub none_interleaves : (AreJournalsOf config texts (map (λ part. part.journal) parts)) → day_text_from (strays_telling feeds) config 0 parts ≡ []
+  pub none_interleaves : (AreJournalsOf config texts (map (λ part. part.journal) parts)) → day_text_from (departures_telling feeds) config 0 parts ≡ []
   none_interleaves are =
       told_from feeds config 0 parts (λ symbol journal at.
       let here : 0 + symbol ≡ symbol = omega arith in
-      ap (λ (s : ℕ). strays_text feeds config s journal) here
+      ap (λ (s : ℕ). departures_text feeds config s journal) here
       ∙ nothing_told feeds config symbol journal
       (subst (λ (l : List (List Timed)). Interleaves journal l) (sym (lists symbol)) (are.interleaved symbol journal at)))
 
@@ -108,7 +108,7 @@ one_config files name text of other bytes found says has =
     ap (λ (p : Config × ℕ). p.0) pair
 
 module _ (files : Files) (config listing_name : List ℕ) (feeds : List (List ℕ)) (lists : List FeedList) (are : AreListsOf files config feeds lists) where
-  day : (Holds : Config → List (List ℕ) → List (List Event) → Type 0) (told : List ℕ) (tells : TellsStrays files config listing_name (asked_in lists) told)
+  day : (Holds : Config → List (List ℕ) → List (List Event) → Type 0) (told : List ℕ) (tells : TellsDepartures files config listing_name (asked_in lists) told)
       → Holds are.of are.texts (map (λ part. part.journal) tells.lists.parts) → IsDay Holds files config listing_name feeds
   day Holds told tells holds =
       let one : tells.of ≡ are.of = one_config files config are.text are.of tells.of are.bytes are.found are.says tells.says in record {
@@ -126,42 +126,42 @@ module _ (files : Files) (config listing_name : List ℕ) (feeds : List (List �
       }
 
   -- what is told is told of the lists' config
-  told_of : (told : List ℕ) (tells : TellsStrays files config listing_name (asked_in lists) told)
-      → told ≡ day_text_from (strays_telling (asked_in lists)) are.of 0 tells.lists.parts
+  told_of : (told : List ℕ) (tells : TellsDepartures files config listing_name (asked_in lists) told)
+      → told ≡ day_text_from (departures_telling (asked_in lists)) are.of 0 tells.lists.parts
   told_of told tells =
       tells.lists.tells
-      ∙ ap (λ (c : Config). day_text_from (strays_telling (asked_in lists)) c 0 tells.lists.parts)
+      ∙ ap (λ (c : Config). day_text_from (departures_telling (asked_in lists)) c 0 tells.lists.parts)
       (one_config files config are.text are.of tells.of are.bytes are.found are.says tells.says)
 
-  pub day_of : TellsStrays files config listing_name (asked_in lists) [] → IsDayOfFeeds files config listing_name feeds
+  pub day_of : TellsDepartures files config listing_name (asked_in lists) [] → IsDayOfFeeds files config listing_name feeds
   day_of tells =
       let one : tells.of ≡ are.of = one_config files config are.text are.of tells.of are.bytes are.found are.says tells.says in
       day AreJournalsOf [] tells
       (all_interleave (asked_in lists) are.of are.texts tells.lists.parts are.commands (tells.lists.each ∙ ap (λ (c : Config). length c.symbols) one)
       (sym (told_of [] tells)))
 
-  pub strays_of : (told : List ℕ) → (told ≡ [] → ⊥) → TellsStrays files config listing_name (asked_in lists) told → StraysFromFeeds files config listing_name feeds
-  strays_of told some tells =
+  pub departures_of : (told : List ℕ) → (told ≡ [] → ⊥) → TellsDepartures files config listing_name (asked_in lists) told → DepartsFromFeeds files config listing_name feeds
+  departures_of told some tells =
       day (λ of texts journals. AreJournalsOf of texts journals → ⊥) told tells
       (λ journals. some (told_of told tells ∙ none_interleaves (asked_in lists) are.of are.texts tells.lists.parts are.commands journals))
 
 -- of a shelf that tells its files
 module _ (config listing_name : List ℕ) (feeds : List (List ℕ)) (lists : List FeedList) where
-  pub if_day : (told later : Option Files) (shown : List FeedList) (strays : List ℕ) → later ≡ told → shown ≡ lists
-      → IfSome told (λ files. AreListsOf files config feeds lists) → IfSome later (λ files. TellsStrays files config listing_name (asked_in shown) strays)
-      → strays ≡ [] → IfSome told (λ files. IsDayOfFeeds files config listing_name feeds)
-  if_day None later shown strays same is are tells none = tt
-  if_day (Some files) later shown strays same is are tells none =
+  pub if_day : (told later : Option Files) (shown : List FeedList) (departures : List ℕ) → later ≡ told → shown ≡ lists
+      → IfSome told (λ files. AreListsOf files config feeds lists) → IfSome later (λ files. TellsDepartures files config listing_name (asked_in shown) departures)
+      → departures ≡ [] → IfSome told (λ files. IsDayOfFeeds files config listing_name feeds)
+  if_day None later shown departures same is are tells none = tt
+  if_day (Some files) later shown departures same is are tells none =
       day_of files config listing_name feeds lists are
-      (subst (λ (s : List ℕ). TellsStrays files config listing_name (asked_in lists) s) none
-      (subst (λ (l : List FeedList). TellsStrays files config listing_name (asked_in l) strays) is
-      (subst (λ (t : Option Files). IfSome t (λ files. TellsStrays files config listing_name (asked_in shown) strays)) same tells)))
+      (subst (λ (s : List ℕ). TellsDepartures files config listing_name (asked_in lists) s) none
+      (subst (λ (l : List FeedList). TellsDepartures files config listing_name (asked_in l) departures) is
+      (subst (λ (t : Option Files). IfSome t (λ files. TellsDepartures files config listing_name (asked_in shown) departures)) same tells)))
 
-  pub if_strays : (told later : Option Files) (shown : List FeedList) (strays : List ℕ) → later ≡ told → shown ≡ lists
-      → IfSome told (λ files. AreListsOf files config feeds lists) → IfSome later (λ files. TellsStrays files config listing_name (asked_in shown) strays)
-      → (strays ≡ [] → ⊥) → IfSome told (λ files. StraysFromFeeds files config listing_name feeds)
-  if_strays None later shown strays same is are tells some = tt
-  if_strays (Some files) later shown strays same is are tells some =
-      strays_of files config listing_name feeds lists are strays some
-      (subst (λ (l : List FeedList). TellsStrays files config listing_name (asked_in l) strays) is
-      (subst (λ (t : Option Files). IfSome t (λ files. TellsStrays files config listing_name (asked_in shown) strays)) same tells))
+  pub if_departures : (told later : Option Files) (shown : List FeedList) (departures : List ℕ) → later ≡ told → shown ≡ lists
+      → IfSome told (λ files. AreListsOf files config feeds lists) → IfSome later (λ files. TellsDepartures files config listing_name (asked_in shown) departures)
+      → (departures ≡ [] → ⊥) → IfSome told (λ files. DepartsFromFeeds files config listing_name feeds)
+  if_departures None later shown departures same is are tells some = tt
+  if_departures (Some files) later shown departures same is are tells some =
+      departures_of files config listing_name feeds lists are departures some
+      (subst (λ (l : List FeedList). TellsDepartures files config listing_name (asked_in l) departures) is
+      (subst (λ (t : Option Files). IfSome t (λ files. TellsDepartures files config listing_name (asked_in shown) departures)) same tells))

@@ -1,5 +1,5 @@
 mod Days
+mod Departing
 mod Putting
 mod Refusals
 mod Sameness
-mod Straying

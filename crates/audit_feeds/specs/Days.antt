@@ -24,7 +24,7 @@ use Rattle.audit_core.specs.declared.audit.AuditRefusal.{AuditRefusal}
 use Rattle.audit_core.specs.declared.audit.AuditRefusal.TheVariants.{Config as BadConfig, SplitName, Listing}
 use Rattle.audit_core.specs.declared.verdict.AuditFault.TheVariants.{LongLine, TooLarge}
 use Rattle.audit_core.specs.declared.verdict.TheConstants.{MAX_LISTING_BYTES}
-use Rattle.audit_feeds.specs.FeedsText.{strays_telling}
+use Rattle.audit_feeds.specs.FeedsText.{departures_telling}
 
 -- one file says a config, others are feeds, and another is the listing of journals of the config, with the reports that the market's rules make of them:
 -- and this holds of the config, the feeds and the journals
@@ -46,8 +46,8 @@ abbrev pub IsDayOfFeeds : Files → List ℕ → List ℕ → List (List ℕ) �
 IsDayOfFeeds files config listing_name feeds = IsDay AreJournalsOf files config listing_name feeds
 
 -- some journal does not
-abbrev pub StraysFromFeeds : Files → List ℕ → List ℕ → List (List ℕ) → Type 0
-StraysFromFeeds files config listing_name feeds = IsDay (λ of texts journals. AreJournalsOf of texts journals → ⊥) files config listing_name feeds
+abbrev pub DepartsFromFeeds : Files → List ℕ → List ℕ → List (List ℕ) → Type 0
+DepartsFromFeeds files config listing_name feeds = IsDay (λ of texts journals. AreJournalsOf of texts journals → ⊥) files config listing_name feeds
 
 -- ---- on the way
 
@@ -65,12 +65,12 @@ pub record AreListsOf (files : Files) (config : List ℕ) (feeds : List (List �
   pub commands : (symbol : ℕ) → map (commands_at symbol) (asked_in lists) ≡ map (λ text. commands of text symbol) texts
 
 -- one file says a config, another lists journals of it, and this is told of where these are not what feeds ask
-pub record TellsStrays (files : Files) (config listing_name : List ℕ) (feeds : List (List Asked)) (told : List ℕ) : Type 0 where
+pub record TellsDepartures (files : Files) (config listing_name : List ℕ) (feeds : List (List Asked)) (told : List ℕ) : Type 0 where
   pub of : Config
   pub says : HasConfig files config of
   pub text : List ℕ
   pub found : file_named files listing_name ≡ Some text
-  pub lists : Lists (strays_telling feeds) of text told
+  pub lists : Lists (departures_telling feeds) of text told
 
 -- ---- why there is no verdict
 

@@ -1,4 +1,4 @@
 pub mod Alike
-pub mod Strays
+pub mod Departures
 pub mod FeedsText
 pub mod Days

@@ -12,10 +12,10 @@ ghost use Rattle.audit_core.specs.Audited.{HasConfig, IsListing, OfText};
 ghost use Rattle.audit_core.specs.Differing.{DiffersAt};
 ghost use Rattle.audit_core.specs.declared.audit.AuditRefusal.{AuditRefusal};
 ghost use Rattle.audit_core.specs.declared.verdict.AuditFault.TheVariants as audit_fault;
-ghost use Rattle.audit_feeds.specs.Days.{AreListsOf, IsAuditCause, IsDayOfFeeds, StopsFor, StraysFromFeeds};
+ghost use Rattle.audit_feeds.specs.Days.{AreListsOf, IsAuditCause, IsDayOfFeeds, StopsFor, DepartsFromFeeds};
 
 use crate::lists::read_lists;
-use crate::telling::{Found, tell_strays};
+use crate::telling::{Found, tell_departures};
 use audit_core::{AuditFiles, AuditRefusal, Verdict};
 use feeds_core::FeedsStatus;
 use io_edge::Shelf;
@@ -35,7 +35,7 @@ pub enum FeedsVerdict {
     /// given where the lines before it say so.
     Differs { line: u32, expected: Option<Bytes> },
     /// It is the listing of journals, and some of these are not what the feeds ask. The lines say where each of them first is not.
-    Strays(Bytes),
+    Departures(Bytes),
 }
 
 /// Why there is no verdict.
@@ -49,15 +49,18 @@ pub enum FeedsRefusal {
 
 /// The verdict by what was found.
 fn verdict_of(found: Found) -> FeedsVerdict
-    ensures same { result ≡ FeedsVerdict.Same → (found.verdict ≡ Verdict.Same) × (found.strays ≡ []) }
-    ensures strays { (text : List ℕ) → result ≡ FeedsVerdict.Strays text → (found.verdict ≡ Verdict.Same) × (found.strays ≡ text) × (text ≢ []) }
+    ensures same { result ≡ FeedsVerdict.Same → (found.verdict ≡ Verdict.Same) × (found.departures ≡ []) }
+    ensures departures { (text : List ℕ) → result ≡ FeedsVerdict.Departures text → (found.verdict ≡ Verdict.Same) × (found.departures ≡ text) × (text ≢ []) }
     ensures differs { (line : ℕ) (expected : Option (List ℕ)) → result ≡ FeedsVerdict.Differs line expected → found.verdict ≡ Verdict.Differs line expected }
 {
-    let Found { verdict, strays } = found;
+    let Found {
+        verdict,
+        departures,
+    } = found;
     match verdict {
         Verdict::Differs { line, expected } => FeedsVerdict::Differs { line, expected },
-        Verdict::Same if strays.as_slice().is_empty() => FeedsVerdict::Same,
-        Verdict::Same => FeedsVerdict::Strays(strays),
+        Verdict::Same if departures.as_slice().is_empty() => FeedsVerdict::Same,
+        Verdict::Same => FeedsVerdict::Departures(departures),
     }
 }
 
@@ -74,12 +77,12 @@ pub fn audit_feeds<R: Threads + Sync, H: Shelf, L: Ledger>(
     requires { length feeds.now ≤ MAX_FEEDS }
 
     // On a shelf that tells its files: with `Same` the one file is the listing of journals of the config in the other, and each holds the
-    // commands of each feed for its symbol, once and in the feed's order, and nothing else; with strays some journal does not. With a line that
+    // commands of each feed for its symbol, once and in the feed's order, and nothing else; with departures some journal does not. With a line that
     // differs it is the listing of no journals, and the line is the first with which it can be none.
     ensures same { result ≡ Ok FeedsVerdict.Same → IfSome (H.told shelf.old) (λ all.
         IsDayOfFeeds all files.entry.config.now files.entry.listing.now (map (λ feed. feed.now) feeds.now)) }
-    ensures strays { (text : List ℕ) → result ≡ Ok (FeedsVerdict.Strays text) → IfSome (H.told shelf.old) (λ all.
-        StraysFromFeeds all files.entry.config.now files.entry.listing.now (map (λ feed. feed.now) feeds.now)) }
+    ensures departures { (text : List ℕ) → result ≡ Ok (FeedsVerdict.Departures text) → IfSome (H.told shelf.old) (λ all.
+        DepartsFromFeeds all files.entry.config.now files.entry.listing.now (map (λ feed. feed.now) feeds.now)) }
     ensures differs { (line : ℕ) (expected : Option (List ℕ)) → result ≡ Ok (FeedsVerdict.Differs line expected) →
         IfSome (H.told shelf.old) (λ all. (config : Config) → HasConfig all files.entry.config.now config →
         OfText all files.entry.listing.now (λ text. DiffersAt (IsListing config) text line expected)) }
@@ -100,7 +103,7 @@ pub fn audit_feeds<R: Threads + Sync, H: Shelf, L: Ledger>(
         Ok(lists) => lists,
         Err(status) => return Err(FeedsRefusal::Feeds(status)),
     };
-    match tell_strays::<Brand, H, L>(alloc, files, lists.as_slice(), shelf, steps) {
+    match tell_departures::<Brand, H, L>(alloc, files, lists.as_slice(), shelf, steps) {
         Ok(found) => Ok(verdict_of(found)),
         Err(refusal) => Err(FeedsRefusal::Audit(refusal)),
     }

@@ -4,9 +4,9 @@
 
 mod alike;
 mod auditing;
+mod departures;
 mod lists;
 mod rows;
-mod strays;
 mod telling;
 mod text;
 

@@ -1,8 +1,8 @@
-//! The table of strays.
+//! The table of departures.
 ghost use Rattle.std.specs.Prelude.{◌≡◌, ◌<◌, length};
 ghost use Rattle.feeds_core.specs.FeedLists.{asked_in};
 
-use crate::text::push_strays;
+use crate::text::push_departures;
 use audit_tables::counts::event_count;
 use audit_tables::{RowTable, Rows};
 use feeds_core::feed_list::FeedList;
@@ -26,37 +26,37 @@ impl Given for Brand {
 
 /// Tells of each symbol where its journal is not what the feeds ask.
 #[derive(Drop)]
-pub struct StrayRows<'a, G: Given> {
+pub struct DepartureRows<'a, G: Given> {
     lists: &'a [FeedList],
     of: PhantomData<G>,
     ghost is: { asked_in lists.now ≡ G.feeds },
     ghost few: { length lists.now < 4294967295 },
 }
 
-/// The strays of a day, on their way to a sink.
-pub type StrayTable<'a, G, K> = RowTable<StrayRows<'a, G>, K>;
+/// The departures of a day, on their way to a sink.
+pub type DepartureTable<'a, G, K> = RowTable<DepartureRows<'a, G>, K>;
 
-impl<'a, G: Given> StrayRows<'a, G> {
+impl<'a, G: Given> DepartureRows<'a, G> {
     ghost use Rattle.std.specs.Prelude.{◌≡◌, ◌<◌, length};
     ghost use Rattle.feeds_core.specs.FeedLists.{asked_in};
 
     /// Nothing is told yet.
-    pub fn new(lists: &'a [FeedList]) -> StrayRows<'a, G>
+    pub fn new(lists: &'a [FeedList]) -> DepartureRows<'a, G>
         requires is { asked_in lists.now ≡ G.feeds }
         requires few { length lists.now < 4294967295 }
     {
-        StrayRows {
+        DepartureRows {
             lists,
             of: PhantomData,
         }
     }
 }
 
-impl<'a, G: Given> Rows for StrayRows<'a, G> {
+impl<'a, G: Given> Rows for DepartureRows<'a, G> {
     ghost use Rattle.std.specs.Prelude.{[]};
-    ghost use Rattle.audit_feeds.specs.FeedsText.{strays_telling};
+    ghost use Rattle.audit_feeds.specs.FeedsText.{departures_telling};
 
-    ghost tells = { strays_telling G.feeds };
+    ghost tells = { departures_telling G.feeds };
 
     ghost header = { [] };
 
@@ -84,6 +84,6 @@ impl<'a, G: Given> Rows for StrayRows<'a, G> {
         symbol: u32,
         book: &Book,
     ) -> Result<(), NoMemory> {
-        push_strays(out, config, symbol, book.journal(), self.lists)
+        push_departures(out, config, symbol, book.journal(), self.lists)
     }
 }

@@ -7,9 +7,9 @@ ghost use Rattle.line_reader.specs.declared.config_file.ConfigFault.TheVariants 
 ghost use Rattle.feeds_core.specs.FeedLists.{asked_in};
 ghost use Rattle.audit_core.specs.Audited.{HasConfig, IsListing, OfText};
 ghost use Rattle.audit_core.specs.Differing.{DiffersAt};
-ghost use Rattle.audit_feeds.specs.Days.{IsAuditCause, TellsStrays};
+ghost use Rattle.audit_feeds.specs.Days.{IsAuditCause, TellsDepartures};
 
-use crate::rows::{Given, StrayRows, StrayTable};
+use crate::rows::{DepartureRows, DepartureTable, Given};
 use audit_core::{AuditFault, AuditFiles, AuditRefusal, Verdict};
 use audit_tables::tabulate;
 use feeds_core::feed_list::FeedList;
@@ -22,24 +22,27 @@ use venue_words::{Bytes, Steps};
 #[derive(Debug, Drop)]
 pub struct Found {
     pub verdict: Verdict,
-    pub strays: Bytes,
+    pub departures: Bytes,
 }
 
 /// What was put, beside a verdict.
 fn found_of(alloc: Global, verdict: Verdict, sink: &MemSink) -> Result<Found, AuditRefusal>
     ensures verdict { IfOk result (λ found. found.verdict ≡ verdict) }
-    ensures strays { IfOk result (λ found. ⟦<MemSink as Sink>⟧.told sink.now ≡ Some found.strays) }
+    ensures departures { IfOk result (λ found. ⟦<MemSink as Sink>⟧.told sink.now ≡ Some found.departures) }
     ensures memory { (refusal : AuditRefusal) → result ≡ Err refusal → refusal ≡ AuditRefusal.Listing AuditFault.NoMemory }
 {
     match Bytes::copy_of(alloc, sink.bytes()) {
-        Ok(strays) => Ok(Found { verdict, strays }),
+        Ok(departures) => Ok(Found {
+            verdict,
+            departures,
+        }),
         Err(_) => Err(AuditRefusal::Listing(AuditFault::NoMemory)),
     }
 }
 
 /// Audits a listing, and tells where its journals are not what the feeds ask that the type stands for.
 #[tactic(auto, using(crate::proofs::Putting::tells))]
-pub fn tell_strays<G: Given, H: Shelf, L: Ledger>(
+pub fn tell_departures<G: Given, H: Shelf, L: Ledger>(
     alloc: Global,
     files: AuditFiles<'_>,
     lists: &[FeedList],
@@ -49,7 +52,7 @@ pub fn tell_strays<G: Given, H: Shelf, L: Ledger>(
     requires is { asked_in lists.now ≡ G.feeds }
     requires few { length lists.now < 4294967295 }
     ensures same { IfOk result (λ found. found.verdict ≡ Verdict.Same → IfSome (H.told shelf.old) (λ all.
-        TellsStrays all files.entry.config.now files.entry.listing.now (asked_in lists.now) found.strays)) }
+        TellsDepartures all files.entry.config.now files.entry.listing.now (asked_in lists.now) found.departures)) }
     ensures differs { (line : ℕ) (expected : Option (List ℕ)) → IfOk result (λ found. found.verdict ≡ Verdict.Differs line expected →
         IfSome (H.told shelf.old) (λ all. (config : Config) → HasConfig all files.entry.config.now config →
         OfText all files.entry.listing.now (λ text. DiffersAt (IsListing config) text line expected))) }
@@ -60,8 +63,9 @@ pub fn tell_strays<G: Given, H: Shelf, L: Ledger>(
     ensures config_fault { result ≡ Err (AuditRefusal.Config config_fault.ReadFault) → Rose (H.faults shelf.old) (H.faults shelf.new) }
     ensures listing_fault { result ≡ Err (AuditRefusal.Listing AuditFault.ReadFault) → Rose (H.faults shelf.old) (H.faults shelf.new) }
 {
-    let rows: StrayRows<'_, G> = StrayRows::new(lists);
-    let Ok(mut table) = StrayTable::new(alloc, rows, MemSink::new(alloc, Vec::new(alloc))) else {
+    let rows: DepartureRows<'_, G> = DepartureRows::new(lists);
+    let Ok(mut table) = DepartureTable::new(alloc, rows, MemSink::new(alloc, Vec::new(alloc)))
+    else {
         return Err(AuditRefusal::Listing(AuditFault::NoMemory));
     };
     match tabulate(alloc, files, shelf, &mut table, steps) {

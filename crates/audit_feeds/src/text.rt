@@ -1,9 +1,9 @@
-//! What is told of strays. Each call appends its text; after a refusal a part of it may stand there.
+//! What is told of departures. Each call appends its text; after a refusal a part of it may stand there.
 ghost use Rattle.std.specs.Prelude.{◌≡◌, ◌<◌, ◌++◌, ◌+◌, length, OnOk, IfSome};
 ghost use Rattle.feeds_core.specs.FeedLists.{asked_in};
-ghost use Rattle.audit_feeds.specs.FeedsText.{outside_text, stray_line, stray_text, strays_from, strays_text, what_misses, what_strays};
+ghost use Rattle.audit_feeds.specs.FeedsText.{outside_text, departure_line, departure_text, departures_from, departures_text, what_misses, what_departs};
 
-use crate::strays::{Stray, first_outside, first_stray};
+use crate::departures::{Departure, first_departure, first_outside};
 use feeds_core::feed_list::FeedList;
 use fix_write::digits::push_number;
 use listing::name_at;
@@ -16,8 +16,8 @@ fn push(out: &mut Vec<u8>, text: &[u8]) -> Result<(), NoMemory>
     Ok(())
 }
 
-fn push_what_strays(out: &mut Vec<u8>, event: Option<u32>) -> Result<(), NoMemory>
-    ensures { OnOk result (out.new.items ≡ out.old.items ++ what_strays event) }
+fn push_what_departs(out: &mut Vec<u8>, event: Option<u32>) -> Result<(), NoMemory>
+    ensures { OnOk result (out.new.items ≡ out.old.items ++ what_departs event) }
 {
     match event {
         None => Ok(()),
@@ -38,28 +38,28 @@ fn what_misses(event: Option<u32>) -> &'static [u8]
     }
 }
 
-/// Appends the line of a stray, where there is one.
-#[tactic(auto, unfolding(crate::specs::FeedsText::stray_text, crate::specs::FeedsText::stray_line))]
-fn push_stray(
+/// Appends the line of a departure, where there is one.
+#[tactic(auto, unfolding(crate::specs::FeedsText::departure_text, crate::specs::FeedsText::departure_line))]
+fn push_departure(
     out: &mut Vec<u8>,
     symbol: &[u8],
     feed: u32,
-    stray: Option<Stray>,
+    departure: Option<Departure>,
 ) -> Result<(), NoMemory>
-    requires { IfSome stray (λ stray. stray.place < 18446744073709551615) }
-    ensures { OnOk result (out.new.items ≡ out.old.items ++ stray_text symbol.now feed stray) }
+    requires { IfSome departure (λ departure. departure.place < 18446744073709551615) }
+    ensures { OnOk result (out.new.items ≡ out.old.items ++ departure_text symbol.now feed departure) }
 {
-    let Some(stray) = stray else {
+    let Some(departure) = departure else {
         return Ok(());
     };
     push(out, symbol)?;
     push(out, b": ")?;
-    push_what_strays(out, stray.event)?;
+    push_what_departs(out, departure.event)?;
     push(out, b"command ")?;
-    push_number(out, stray.place as u64 + 1)?;
+    push_number(out, departure.place as u64 + 1)?;
     push(out, b" of feed ")?;
     push_number(out, u64::from(feed))?;
-    push(out, what_misses(stray.event))?;
+    push(out, what_misses(departure.event))?;
     push(out, b"\n")
 }
 
@@ -86,22 +86,22 @@ fn push_feeds(
     lists: &[FeedList],
 ) -> Result<(), NoMemory>
     requires { length lists.now < 4294967295 }
-    ensures { OnOk result (out.new.items ≡ out.old.items ++ strays_from name.now symbol journal.now 1 (asked_in lists.now)) }
+    ensures { OnOk result (out.new.items ≡ out.old.items ++ departures_from name.now symbol journal.now 1 (asked_in lists.now)) }
 {
     let mut feed = 0;
     let mut rest = lists;
     while let [list, later @ ..] = rest {
         feed += 1;
-        let stray = first_stray(journal, feed, list.commands.as_slice(), symbol);
-        push_stray(out, name, feed, stray)?;
+        let departure = first_departure(journal, feed, list.commands.as_slice(), symbol);
+        push_departure(out, name, feed, departure)?;
         rest = later;
     }
     Ok(())
 }
 
 /// Appends what is told of a symbol's journal.
-#[tactic(auto, unfolding(crate::specs::FeedsText::strays_text))]
-pub fn push_strays(
+#[tactic(auto, unfolding(crate::specs::FeedsText::departures_text))]
+pub fn push_departures(
     out: &mut Vec<u8>,
     config: &Config,
     symbol: u32,
@@ -109,7 +109,7 @@ pub fn push_strays(
     lists: &[FeedList],
 ) -> Result<(), NoMemory>
     requires { length lists.now < 4294967295 }
-    ensures { OnOk result (out.new.items ≡ out.old.items ++ strays_text (asked_in lists.now) config.now symbol journal.now) }
+    ensures { OnOk result (out.new.items ≡ out.old.items ++ departures_text (asked_in lists.now) config.now symbol journal.now) }
 {
     let name = name_at(config.symbols.as_slice(), symbol);
     push_outside(out, name, first_outside(lists.len(), journal))?;

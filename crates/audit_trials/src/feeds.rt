@@ -42,7 +42,7 @@ fn shelf_with(alloc: Global, place: usize, text: &[u8]) -> Result<MemShelf, Fail
 }
 
 /// Where the day's journals are not what the feed asks.
-fn strays_of<R: Threads + Sync, L: Ledger>(
+fn departures_of<R: Threads + Sync, L: Ledger>(
     rt: &R,
     alloc: Global,
     place: usize,
@@ -55,7 +55,7 @@ fn strays_of<R: Threads + Sync, L: Ledger>(
     let mut shelf = shelf_with(alloc, place, text)?;
     match audit_feeds(rt, alloc, FILES, &["f"], &mut shelf, &mut steps) {
         Ok(FeedsVerdict::Same) => Ok(Bytes::copy_of(alloc, b"same")?),
-        Ok(FeedsVerdict::Strays(strays)) => Ok(strays),
+        Ok(FeedsVerdict::Departures(departures)) => Ok(departures),
         Ok(FeedsVerdict::Differs { .. }) => Err(Fail::from("a line differs")),
         Err(_) => Ok(Bytes::copy_of(alloc, b"refused")?),
     }
@@ -68,8 +68,8 @@ fn look_at<R: Threads + Abort + Sync>(
     text: &[u8],
     right: &[u8],
 ) -> Result<(), Fail> {
-    let strays = strays_of::<R, Brand>(rt, alloc, place, text, Blank::new(1))?;
-    assert_eq!(rt; strays.as_slice(), right);
+    let departures = departures_of::<R, Brand>(rt, alloc, place, text, Blank::new(1))?;
+    assert_eq!(rt; departures.as_slice(), right);
     Ok(())
 }
 
@@ -96,7 +96,7 @@ const CASES: &[(usize, &[u8], &[u8])] = &[
 ];
 
 #[test]
-fn strays_are_told(rt: HostRuntime) -> Result<(), Fail> {
+fn departures_are_told(rt: HostRuntime) -> Result<(), Fail> {
     let alloc = rt.alloc();
     for (place, text, right) in CASES {
         look_at(&rt, alloc, *place, text, right)?;

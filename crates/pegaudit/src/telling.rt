@@ -34,8 +34,8 @@ pub fn tell_verdict(rt: &HostRuntime, files: AuditFiles<'_>, verdict: Verdict) -
 }
 
 /// Tells where journals are not what the feeds ask.
-fn tell_strays(rt: &HostRuntime, strays: &Bytes) -> Exit {
-    told(rt.stdout().write_all(strays.as_slice()), Exit::Differs)
+fn tell_departures(rt: &HostRuntime, departures: &Bytes) -> Exit {
+    told(rt.stdout().write_all(departures.as_slice()), Exit::Differs)
 }
 
 /// Tells a verdict on a listing and its feeds.
@@ -45,7 +45,7 @@ pub fn tell_feeds_verdict(rt: &HostRuntime, files: AuditFiles<'_>, verdict: Feed
         FeedsVerdict::Differs { line, expected } => {
             tell_verdict(rt, files, Verdict::Differs { line, expected })
         }
-        FeedsVerdict::Strays(strays) => tell_strays(rt, &strays),
+        FeedsVerdict::Departures(departures) => tell_departures(rt, &departures),
     }
 }
 

@@ -1,4 +1,4 @@
 use Rattle.audit_trials.proofs.feeds.look_at.Given as goal
 
-abbrev pub ghosts-strays_of : goal.ghosts-strays_of
-ghosts-strays_of g a = record { name = a.blank.name; parts = a.blank.parts }
+abbrev pub ghosts-departures_of : goal.ghosts-departures_of
+ghosts-departures_of g a = record { name = a.blank.name; parts = a.blank.parts }

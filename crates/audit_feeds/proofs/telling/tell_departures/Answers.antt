@@ -1,5 +1,5 @@
 use Rattle.audit_feeds.proofs.Refusals.{cause_is, differs_is}
-use Rattle.audit_feeds.proofs.telling.tell_strays.Goals as goal
+use Rattle.audit_feeds.proofs.telling.tell_departures.Goals as goal
 
 pub returns-in-Ok-tabulate-clause-differs : goal.returns-in-Ok-tabulate-clause-differs
 returns-in-Ok-tabulate-clause-differs g c =

@@ -1,7 +1,7 @@
 -- No event so far is of the feed.
 use Rattle.std.proofs.Common.{◌≡◌, ◌≤◌, length}
-use Rattle.audit_feeds.specs.Strays.{events_of}
-use Rattle.audit_feeds.proofs.strays.next_event.Given as goal
+use Rattle.audit_feeds.specs.Departures.{events_of}
+use Rattle.audit_feeds.proofs.departures.next_event.Given as goal
 
 abbrev pub invariant-loop-rest : goal.invariant-loop-rest
 invariant-loop-rest l = record { same : events_of l.feed l.rest ≡ events_of l.feed l.journal; most : length l.rest ≤ length l.journal }

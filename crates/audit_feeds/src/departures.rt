@@ -1,14 +1,14 @@
 //! Where a symbol's journal is not what its feeds ask.
 ghost use Rattle.std.specs.Prelude.{◌≡◌, ◌<◌, ◌+◌, ◌∷◌, [], None, IfSome, length, option_map};
 ghost use Rattle.feed_work.specs.Feeds.{commands_at};
-ghost use Rattle.audit_feeds.specs.Strays.{events_of, first_outside, first_stray, is_outside};
+ghost use Rattle.audit_feeds.specs.Departures.{events_of, first_outside, first_departure, is_outside};
 
 use crate::alike::is_command;
 use venue_words::{Command, Event};
 
 /// Where the events of a feed are not its commands.
 #[derive(Clone, Copy, Debug, PartialEq, Eq)]
-pub struct Stray {
+pub struct Departure {
     /// The place in the feed, counted from 0 in each symbol.
     pub place: usize,
     /// The number of the event that stands there; none where a command is missing.
@@ -51,15 +51,15 @@ fn next_command(
 }
 
 /// Where the events of a feed are not what it asks of a symbol.
-#[tactic(auto, unfolding(crate::specs::Strays::first_stray))]
-pub fn first_stray(
+#[tactic(auto, unfolding(crate::specs::Departures::first_departure))]
+pub fn first_departure(
     journal: &[Event],
     feed: u32,
     commands: &[(u32, i64, Command)],
     symbol: u32,
-) -> Option<Stray>
-    ensures stray { result ≡ first_stray 0 (events_of feed journal.now) (commands_at symbol commands.now) }
-    ensures within { IfSome result (λ stray. stray.place < length journal.now + 1) }
+) -> Option<Departure>
+    ensures departure { result ≡ first_departure 0 (events_of feed journal.now) (commands_at symbol commands.now) }
+    ensures within { IfSome result (λ departure. departure.place < length journal.now + 1) }
 {
     let mut events = journal;
     let mut asked = commands;
@@ -69,18 +69,18 @@ pub fn first_stray(
         let Some((event, later)) = next_event(events, feed) else {
             return match command {
                 None => None,
-                Some(_) => Some(Stray { place, event: None }),
+                Some(_) => Some(Departure { place, event: None }),
             };
         };
-        let stray = Stray {
+        let departure = Departure {
             place,
             event: Some(event.number),
         };
         let Some((command, more)) = command else {
-            return Some(stray);
+            return Some(departure);
         };
         if !is_command(event, command) {
-            return Some(stray);
+            return Some(departure);
         }
         events = later;
         asked = more;

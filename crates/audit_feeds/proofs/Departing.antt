@@ -10,9 +10,9 @@ use Rattle.feed_work.specs.Feeds.{Asked, commands_at}
 use Rattle.listing.specs.Commands.{name_at}
 use Rattle.listing.specs.Lines.{ended}
 use Rattle.audit_feeds.specs.Alike.{is_command}
-use Rattle.audit_feeds.specs.FeedsText.{outside_text, stray_line, stray_text, strays_from, strays_text}
-use Rattle.audit_feeds.specs.Strays.{events_of, first_outside, first_stray, is_outside}
-use Rattle.audit_feeds.specs.declared.strays.Stray.{Stray}
+use Rattle.audit_feeds.specs.FeedsText.{outside_text, departure_line, departure_text, departures_from, departures_text}
+use Rattle.audit_feeds.specs.Departures.{events_of, first_outside, first_departure, is_outside}
+use Rattle.audit_feeds.specs.declared.departures.Departure.{Departure}
 use Rattle.audit_feeds.proofs.Sameness.{is_command_Decides}
 
 -- ---- one feed
@@ -28,28 +28,28 @@ is_true : {A : Type 0} (b : Bool) (x : Option A) (y : A) → cond b x (Some y) �
 is_true true x y e = refl
 is_true false x y e = absurd (cc)
 
-none_stray : (place : ℕ) (events : List Event) (commands : List Timed) → first_stray place events commands ≡ None → map timed_of events ≡ commands
-unfolding first_stray
-none_stray place [] [] e = refl
-none_stray place [] (timed ∷ more) e = absurd (cc)
-none_stray place (event ∷ later) [] e = absurd (cc)
-none_stray place (event ∷ later) (timed ∷ more) e =
-    let is : is_command event timed ≡ true = is_true (is_command event timed) (first_stray (place + 1) later more) _ e in
-    let rest : first_stray (place + 1) later more ≡ None = sym (on_true (is_command event timed) (first_stray (place + 1) later more) _ is) ∙ e in
+none_departure : (place : ℕ) (events : List Event) (commands : List Timed) → first_departure place events commands ≡ None → map timed_of events ≡ commands
+unfolding first_departure
+none_departure place [] [] e = refl
+none_departure place [] (timed ∷ more) e = absurd (cc)
+none_departure place (event ∷ later) [] e = absurd (cc)
+none_departure place (event ∷ later) (timed ∷ more) e =
+    let is : is_command event timed ≡ true = is_true (is_command event timed) (first_departure (place + 1) later more) _ e in
+    let rest : first_departure (place + 1) later more ≡ None = sym (on_true (is_command event timed) (first_departure (place + 1) later more) _ is) ∙ e in
     let first : (event.moment, event.command) ≡ timed = (is_command_Decides event timed).0 is in
-    let others : map timed_of later ≡ more = none_stray (place + 1) later more rest in
+    let others : map timed_of later ≡ more = none_departure (place + 1) later more rest in
     λ k. first k ∷ others k
 
-no_stray : (place : ℕ) (events : List Event) (commands : List Timed) → map timed_of events ≡ commands → first_stray place events commands ≡ None
-unfolding first_stray
-no_stray place [] [] e = refl
-no_stray place [] (timed ∷ more) e = absurd (cc)
-no_stray place (event ∷ later) [] e = absurd (cc)
-no_stray place (event ∷ later) (timed ∷ more) e =
+no_departure : (place : ℕ) (events : List Event) (commands : List Timed) → map timed_of events ≡ commands → first_departure place events commands ≡ None
+unfolding first_departure
+no_departure place [] [] e = refl
+no_departure place [] (timed ∷ more) e = absurd (cc)
+no_departure place (event ∷ later) [] e = absurd (cc)
+no_departure place (event ∷ later) (timed ∷ more) e =
     let first : (event.moment, event.command) ≡ timed = cc in
     let others : map timed_of later ≡ more = cc in
-    on_true (is_command event timed) (first_stray (place + 1) later more) _ ((is_command_Decides event timed).1 first)
-    ∙ no_stray (place + 1) later more others
+    on_true (is_command event timed) (first_departure (place + 1) later more) _ ((is_command_Decides event timed).1 first)
+    ∙ no_departure (place + 1) later more others
 
 -- ---- all feeds
 
@@ -71,34 +71,34 @@ second_none : (xs ys : List ℕ) → xs ++ ys ≡ [] → ys ≡ []
 second_none [] ys e = e
 second_none (x ∷ xs) ys e = absurd (cc)
 
-text_none : (name : List ℕ) (feed : ℕ) (found : Option Stray) → stray_text name feed found ≡ [] → found ≡ None
-unfolding stray_text
+text_none : (name : List ℕ) (feed : ℕ) (found : Option Departure) → departure_text name feed found ≡ [] → found ≡ None
+unfolding departure_text
 text_none name feed None e = refl
-text_none name feed (Some stray) e = absurd (ended_is (stray_line name feed stray) e)
+text_none name feed (Some departure) e = absurd (ended_is (departure_line name feed departure) e)
 
-no_text : (name : List ℕ) (feed : ℕ) (found : Option Stray) → found ≡ None → stray_text name feed found ≡ []
-unfolding stray_text
+no_text : (name : List ℕ) (feed : ℕ) (found : Option Departure) → found ≡ None → departure_text name feed found ≡ []
+unfolding departure_text
 no_text name feed None e = refl
-no_text name feed (Some stray) e = absurd (cc)
+no_text name feed (Some departure) e = absurd (cc)
 
-each_is : (name : List ℕ) (symbol : ℕ) (journal : List Event) (feed : ℕ) (feeds : List (List Asked)) → strays_from name symbol journal feed feeds ≡ []
+each_is : (name : List ℕ) (symbol : ℕ) (journal : List Event) (feed : ℕ) (feeds : List (List Asked)) → departures_from name symbol journal feed feeds ≡ []
     → Each symbol journal feed feeds
 each_is name symbol journal feed [] e = tt
 each_is name symbol journal feed (commands ∷ feeds) e =
-    let here = stray_text name feed (first_stray 0 (events_of feed journal) (commands_at symbol commands)) in
-    let later = strays_from name symbol journal (feed + 1) feeds in (
-      none_stray 0 (events_of feed journal) (commands_at symbol commands)
-          (text_none name feed (first_stray 0 (events_of feed journal) (commands_at symbol commands)) (first_none here later e)),
+    let here = departure_text name feed (first_departure 0 (events_of feed journal) (commands_at symbol commands)) in
+    let later = departures_from name symbol journal (feed + 1) feeds in (
+      none_departure 0 (events_of feed journal) (commands_at symbol commands)
+          (text_none name feed (first_departure 0 (events_of feed journal) (commands_at symbol commands)) (first_none here later e)),
       each_is name symbol journal (feed + 1) feeds (second_none here later e),
     )
 
 none_from : (name : List ℕ) (symbol : ℕ) (journal : List Event) (feed : ℕ) (feeds : List (List Asked)) → Each symbol journal feed feeds
-    → strays_from name symbol journal feed feeds ≡ []
+    → departures_from name symbol journal feed feeds ≡ []
 none_from name symbol journal feed [] each = refl
 none_from name symbol journal feed (commands ∷ feeds) each =
-    ap (λ (text : List ℕ). text ++ strays_from name symbol journal (feed + 1) feeds)
-    (no_text name feed (first_stray 0 (events_of feed journal) (commands_at symbol commands))
-    (no_stray 0 (events_of feed journal) (commands_at symbol commands) each.0))
+    ap (λ (text : List ℕ). text ++ departures_from name symbol journal (feed + 1) feeds)
+    (no_text name feed (first_departure 0 (events_of feed journal) (commands_at symbol commands))
+    (no_departure 0 (events_of feed journal) (commands_at symbol commands) each.0))
     ∙ none_from name symbol journal (feed + 1) feeds each.1
 
 each_at : (symbol : ℕ) (journal : List Event) (feed : ℕ) (feeds : List (List Asked)) (k : ℕ) (commands : List Timed) → Each symbol journal feed feeds
@@ -224,15 +224,15 @@ no_outside name (Some event) e = absurd (cc)
 
 -- ---- a symbol
 
-pub interleaves : (feeds : List (List Asked)) (config : Config) (symbol : ℕ) (journal : List Event) → strays_text feeds config symbol journal ≡ []
+pub interleaves : (feeds : List (List Asked)) (config : Config) (symbol : ℕ) (journal : List Event) → departures_text feeds config symbol journal ≡ []
     → Interleaves journal (map (commands_at symbol) feeds)
-unfolding strays_text
+unfolding departures_text
 interleaves feeds config symbol journal e =
     let name = name_at config.symbols symbol in
     let outside = outside_text name (option_map (λ event. event.number) (first_outside (length feeds) journal)) in
-    let strays = strays_from name symbol journal 1 feeds in
-    let each = each_is name symbol journal 1 feeds (second_none outside strays e) in record {
-      counts = all_inside (length feeds) journal (outside_none name (first_outside (length feeds) journal) (first_none outside strays e))
+    let departures = departures_from name symbol journal 1 feeds in
+    let each = each_is name symbol journal 1 feeds (second_none outside departures e) in record {
+      counts = all_inside (length feeds) journal (outside_none name (first_outside (length feeds) journal) (first_none outside departures e))
           ∙ counts_sum symbol journal 1 feeds each;
       each = λ k commands at.
           let place : k + 1 ≡ 1 + k = omega arith in
@@ -240,13 +240,13 @@ interleaves feeds config symbol journal e =
     }
 
 pub nothing_told : (feeds : List (List Asked)) (config : Config) (symbol : ℕ) (journal : List Event) → Interleaves journal (map (commands_at symbol) feeds)
-    → strays_text feeds config symbol journal ≡ []
-unfolding strays_text
+    → departures_text feeds config symbol journal ≡ []
+unfolding departures_text
 nothing_told feeds config symbol journal is =
     let name = name_at config.symbols symbol in
     let each = each_from symbol journal 1 feeds (λ k commands at.
     let place : 1 + k ≡ k + 1 = omega arith in
     ap (λ (n : ℕ). commands_of n journal) place ∙ is.each k commands at) in
-    ap (λ (text : List ℕ). text ++ strays_from name symbol journal 1 feeds)
+    ap (λ (text : List ℕ). text ++ departures_from name symbol journal 1 feeds)
     (no_outside name (first_outside (length feeds) journal) (none_outside (length feeds) journal (is.counts ∙ sym (counts_sum symbol journal 1 feeds each))))
     ∙ none_from name symbol journal 1 feeds each
