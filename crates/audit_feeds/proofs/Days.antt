@@ -10,15 +10,20 @@ use Rattle.venue_words.specs.declared.config.Config.{Config}
 use Rattle.eager_meaning.specs.Interleaving.{Interleaves, Timed}
 use Rattle.line_work.specs.Commands.{commands}
 use Rattle.feed_work.specs.Feeds.{Asked, commands_at}
-use Rattle.listing.specs.Listing.{Part}
+use Rattle.market_laws.specs.Reports.{ReportsAreFew}
+use Rattle.listing.specs.Listing.{Part, RunsAreInOrder, listing_from}
+use Rattle.listing_reader.specs.Fitting.{has_word_names}
+use Rattle.feeds_core.specs.FeedFiles.{texts_named}
 use Rattle.feeds_core.specs.FeedLists.{asked_in}
 use Rattle.feeds_core.specs.FeedRuns.{AreJournalsOf}
 use Rattle.feeds_core.specs.declared.feed_list.FeedList.{FeedList}
-use Rattle.audit_core.specs.Audited.{HasConfig}
+use Rattle.audit_core.specs.Audited.{AreParts, HasConfig}
+use Rattle.audit_core.specs.Names.{has_line_names}
 use Rattle.audit_core.specs.Telling.{day_text_from, events_text, journal_text}
-use Rattle.audit_feeds.specs.Days.{AreListsOf, IsDay, IsDayOfFeeds, DepartsFromFeeds, TellsDepartures}
+use Rattle.audit_feeds.specs.Days.{AreListsOf, HasPlainNames, IsDay, IsDayOfFeeds, DepartsFromFeeds, TellsDepartures}
 use Rattle.audit_feeds.specs.FeedsText.{departures_telling, departures_text}
 use Rattle.audit_feeds.proofs.Departing.{interleaves, nothing_told}
+use Rattle.audit_feeds.proofs.Uniqueness.{one_listing}
 
 abbrev journal_of : Part → List Event
 journal_of part = part.journal
@@ -91,6 +96,13 @@ module _ (feeds : List (List Asked)) (config : Config) (texts : List (List ℕ))
 
 -- ---- of files
 
+some_is : {A : Type 0} (found : Option A) (x y : A) → found ≡ Some x → found ≡ Some y → x ≡ y
+some_is None x y a b = absurd (cc)
+some_is (Some z) x y a b =
+    let one : z ≡ x = cc in
+    let other : z ≡ y = cc in
+    sym one ∙ other
+
 pair_is : {E : Type 0} (answer : Result (Config × ℕ) E) (x y : Config × ℕ) → answer ≡ Ok x → answer ≡ Ok y → x ≡ y
 pair_is (Ok z) x y a b =
     let one : z ≡ x = cc in
@@ -145,6 +157,30 @@ module _ (files : Files) (config listing_name : List ℕ) (feeds : List (List �
       day (λ of texts journals. AreJournalsOf of texts journals → ⊥) told tells
       (λ journals. some (told_of told tells ∙ none_interleaves (asked_in lists) are.of are.texts tells.lists.parts are.commands journals))
 
+-- the journals of a listing are those of no other
+module _ (in_order : RunsAreInOrder) (few : ReportsAreFew) (files : Files) (config listing_name : List ℕ) (feeds : List (List ℕ)) (lists : List FeedList) (are : AreListsOf files config feeds lists) where
+  no_day : (told : List ℕ) → (told ≡ [] → ⊥) → TellsDepartures files config listing_name (asked_in lists) told → (of : Config) → HasConfig files config of → HasPlainNames of
+      → IsDayOfFeeds files config listing_name feeds → ⊥
+  no_day told some tells of has names day =
+      let config_is : of ≡ are.of = one_config files config are.text are.of of are.bytes are.found are.says has in
+      let tells_is : tells.of ≡ are.of = one_config files config are.text are.of tells.of are.bytes are.found are.says tells.says in
+      let day_is : day.of ≡ are.of = one_config files config are.text are.of day.of are.bytes are.found are.says day.says in
+      let texts_are : day.texts ≡ are.texts = some_is (texts_named files feeds) day.texts are.texts day.found_feeds are.found_feeds in
+      let text_is : tells.text ≡ day.text = some_is (file_named files listing_name) tells.text day.text tells.found day.found in
+      let listed : listing_from are.of 0 tells.lists.parts ≡ listing_from are.of 0 day.parts =
+      ap (λ (c : Config). listing_from c 0 tells.lists.parts) (sym tells_is) ∙ sym tells.lists.spelled ∙ text_is ∙ day.spelled
+      ∙ ap (λ (c : Config). listing_from c 0 day.parts) day_is in
+      let same : map journal_of tells.lists.parts ≡ map journal_of day.parts =
+      one_listing in_order few are.of are.is (ap has_word_names (sym config_is) ∙ names.words) (ap has_line_names (sym config_is) ∙ names.lines)
+      tells.lists.parts day.parts (tells.lists.each ∙ ap (λ (c : Config). length c.symbols) tells_is) (day.each ∙ ap (λ (c : Config). length c.symbols) day_is)
+      (subst (λ (c : Config). AreParts c 0 tells.lists.parts) tells_is tells.lists.made) (subst (λ (c : Config). AreParts c 0 day.parts) day_is day.made) listed in
+      let holds : AreJournalsOf are.of are.texts (map journal_of tells.lists.parts) =
+      subst (λ (j : List (List Event)). AreJournalsOf are.of are.texts j) (sym same)
+      (subst (λ (t : List (List ℕ)). AreJournalsOf are.of t (map journal_of day.parts)) texts_are
+      (subst (λ (c : Config). AreJournalsOf c day.texts (map journal_of day.parts)) day_is day.holds)) in
+      some (told_of files config listing_name feeds lists are told tells
+      ∙ none_interleaves (asked_in lists) are.of are.texts tells.lists.parts are.commands holds)
+
 -- of a shelf that tells its files
 module _ (config listing_name : List ℕ) (feeds : List (List ℕ)) (lists : List FeedList) where
   pub if_day : (told later : Option Files) (shown : List FeedList) (departures : List ℕ) → later ≡ told → shown ≡ lists
@@ -163,5 +199,15 @@ module _ (config listing_name : List ℕ) (feeds : List (List ℕ)) (lists : Lis
   if_departures None later shown departures same is are tells some = tt
   if_departures (Some files) later shown departures same is are tells some =
       departures_of files config listing_name feeds lists are departures some
+      (subst (λ (l : List FeedList). TellsDepartures files config listing_name (asked_in l) departures) is
+      (subst (λ (t : Option Files). IfSome t (λ files. TellsDepartures files config listing_name (asked_in shown) departures)) same tells))
+
+  pub if_other : (in_order : RunsAreInOrder) (few : ReportsAreFew) (told later : Option Files) (shown : List FeedList) (departures : List ℕ) → later ≡ told → shown ≡ lists
+      → IfSome told (λ files. AreListsOf files config feeds lists) → IfSome later (λ files. TellsDepartures files config listing_name (asked_in shown) departures)
+      → (departures ≡ [] → ⊥)
+      → IfSome told (λ files. (of : Config) → HasConfig files config of → HasPlainNames of → IsDayOfFeeds files config listing_name feeds → ⊥)
+  if_other in_order few None later shown departures same is are tells some = tt
+  if_other in_order few (Some files) later shown departures same is are tells some =
+      no_day in_order few files config listing_name feeds lists are departures some
       (subst (λ (l : List FeedList). TellsDepartures files config listing_name (asked_in l) departures) is
       (subst (λ (t : Option Files). IfSome t (λ files. TellsDepartures files config listing_name (asked_in shown) departures)) same tells))

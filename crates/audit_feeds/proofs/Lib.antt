@@ -3,3 +3,4 @@ mod Departing
 mod Putting
 mod Refusals
 mod Sameness
+mod Uniqueness

@@ -1,6 +1,7 @@
 -- What a day's listing is to its feeds.
-use Rattle.std.specs.Prelude.{◌≡◌, ◌<◌, ◌⊎◌, ℕ, List, map, length, false, Some, Ok, Err}
+use Rattle.std.specs.Prelude.{◌≡◌, ◌<◌, ◌⊎◌, ℕ, List, map, length, true, false, Some, Ok, Err}
 use Rattle.io_edge.specs.Files.{Files, file_named}
+use Rattle.venue_words.specs.Conditions.{IsConfig}
 use Rattle.venue_words.specs.declared.config.Config.{Config}
 use Rattle.venue_words.specs.declared.command.Event.{Event}
 use Rattle.venue_words.specs.declared.limits.TheConstants.{MAX_CONFIG_BYTES}
@@ -49,12 +50,18 @@ IsDayOfFeeds files config listing_name feeds = IsDay AreJournalsOf files config 
 abbrev pub DepartsFromFeeds : Files → List ℕ → List ℕ → List (List ℕ) → Type 0
 DepartsFromFeeds files config listing_name feeds = IsDay (λ of texts journals. AreJournalsOf of texts journals → ⊥) files config listing_name feeds
 
+-- a config whose names are words on one line, so that the words of a listing's lines can be told apart
+pub record HasPlainNames (config : Config) : Type 0 where
+  pub words : has_word_names config ≡ true
+  pub lines : has_line_names config ≡ true
+
 -- ---- on the way
 
 -- one file says a config, others are feeds of it without a refused line and with commands for which each journal has room, and the lists are
 -- these feeds' commands
 pub record AreListsOf (files : Files) (config : List ℕ) (feeds : List (List ℕ)) (lists : List FeedList) : Type 0 where
   pub of : Config
+  pub is : IsConfig of
   pub text : List ℕ
   pub found : file_named files config ≡ Some text
   pub bytes : ℕ

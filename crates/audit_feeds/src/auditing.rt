@@ -12,13 +12,15 @@ ghost use Rattle.audit_core.specs.Audited.{HasConfig, IsListing, OfText};
 ghost use Rattle.audit_core.specs.Differing.{DiffersAt};
 ghost use Rattle.audit_core.specs.declared.audit.AuditRefusal.{AuditRefusal};
 ghost use Rattle.audit_core.specs.declared.verdict.AuditFault.TheVariants as audit_fault;
-ghost use Rattle.audit_feeds.specs.Days.{AreListsOf, IsAuditCause, IsDayOfFeeds, StopsFor, DepartsFromFeeds};
+ghost use Rattle.audit_feeds.specs.Days.{HasPlainNames, IsAuditCause, IsDayOfFeeds, StopsFor, DepartsFromFeeds};
 
 use crate::lists::read_lists;
 use crate::telling::{Found, tell_departures};
 use audit_core::{AuditFiles, AuditRefusal, Verdict};
 use feeds_core::FeedsStatus;
 use io_edge::Shelf;
+use listing::runs_are_in_order;
+use market_laws::reports_are_few;
 use std::alloc::Global;
 use std::marker::Brand;
 use std::sync::ledger::Ledger;
@@ -77,12 +79,16 @@ pub fn audit_feeds<R: Threads + Sync, H: Shelf, L: Ledger>(
     requires { length feeds.now ≤ MAX_FEEDS }
 
     // On a shelf that tells its files: with `Same` the one file is the listing of journals of the config in the other, and each holds the
-    // commands of each feed for its symbol, once and in the feed's order, and nothing else; with departures some journal does not. With a line that
+    // commands of each feed for its symbol, once and in the feed's order, and nothing else; with departures some journal does not, and the file
+    // is the listing of no journals that do. With a line that
     // differs it is the listing of no journals, and the line is the first with which it can be none.
     ensures same { result ≡ Ok FeedsVerdict.Same → IfSome (H.told shelf.old) (λ all.
         IsDayOfFeeds all files.entry.config.now files.entry.listing.now (map (λ feed. feed.now) feeds.now)) }
     ensures departures { (text : List ℕ) → result ≡ Ok (FeedsVerdict.Departures text) → IfSome (H.told shelf.old) (λ all.
         DepartsFromFeeds all files.entry.config.now files.entry.listing.now (map (λ feed. feed.now) feeds.now)) }
+    ensures exact { (text : List ℕ) → result ≡ Ok (FeedsVerdict.Departures text) → IfSome (H.told shelf.old) (λ all.
+        (config : Config) → HasConfig all files.entry.config.now config → HasPlainNames config →
+        IsDayOfFeeds all files.entry.config.now files.entry.listing.now (map (λ feed. feed.now) feeds.now) → ⊥) }
     ensures differs { (line : ℕ) (expected : Option (List ℕ)) → result ≡ Ok (FeedsVerdict.Differs line expected) →
         IfSome (H.told shelf.old) (λ all. (config : Config) → HasConfig all files.entry.config.now config →
         OfText all files.entry.listing.now (λ text. DiffersAt (IsListing config) text line expected)) }
@@ -103,6 +109,8 @@ pub fn audit_feeds<R: Threads + Sync, H: Shelf, L: Ledger>(
         Ok(lists) => lists,
         Err(status) => return Err(FeedsRefusal::Feeds(status)),
     };
+    runs_are_in_order();
+    reports_are_few();
     match tell_departures::<Brand, H, L>(alloc, files, lists.as_slice(), shelf, steps) {
         Ok(found) => Ok(verdict_of(found)),
         Err(refusal) => Err(FeedsRefusal::Audit(refusal)),
