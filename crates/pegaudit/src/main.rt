@@ -5,22 +5,13 @@
 //! `pegaudit order CONFIG LISTING SYMBOL EVENT` the life of the order that entered there.
 #![tactic(auto)]
 
-mod exit;
 mod progress;
-mod refusals;
-mod telling;
 mod words;
 
 ghost use Rattle.std.specs.Prelude.{◌≡◌, ◌≤◌, length};
 ghost use Rattle.venue_words.specs.declared.limits.TheConstants.{MAX_FEEDS};
 
-use crate::exit::Exit;
 use crate::progress::shelf_of;
-use crate::refusals::{tell_explained, tell_feeds_refusal, tell_refusal, tell_unread_script};
-use crate::telling::{
-    tell_bad_event, tell_chart, tell_feeds_verdict, tell_found, tell_many_feeds, tell_tabled,
-    tell_verdict,
-};
 use crate::words::{Question, feeds_of, program, question_of};
 use audit_book::{BookRows, BookTable};
 use audit_chart::draw_day;
@@ -31,6 +22,14 @@ use audit_order::{OrderRows, OrderTable};
 use audit_summary::{SummaryRows, SummaryTable};
 use audit_tables::asked::{self, Asked, Found};
 use audit_tables::{Table, TradeTable, tabulate};
+use audit_telling::exit::Exit;
+use audit_telling::refusals::{
+    tell_explained, tell_feeds_refusal, tell_refusal, tell_unread_script,
+};
+use audit_telling::telling::{
+    tell_bad_event, tell_chart, tell_feeds_verdict, tell_found, tell_many_feeds, tell_tabled,
+    tell_verdict,
+};
 use clap::error::ErrorKind;
 use io_edge::StreamSink;
 use program_words::WordFault;

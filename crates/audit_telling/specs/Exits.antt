@@ -1,7 +1,7 @@
 -- The statuses that the program ends with.
 use Rattle.std.specs.Prelude.{ℕ}
-use Rattle.pegaudit.specs.declared.exit.Exit.{Exit}
-use Rattle.pegaudit.specs.declared.exit.Exit.TheVariants.{Done, Differs, BadWords, BadLine, Limit, ReadFault, WriteFault, NoMemory, NotThere}
+use Rattle.audit_telling.specs.declared.exit.Exit.{Exit}
+use Rattle.audit_telling.specs.declared.exit.Exit.TheVariants.{Done, Differs, BadWords, BadLine, Limit, ReadFault, WriteFault, NoMemory, NotThere}
 
 abbrev pub exit_code : Exit → ℕ
 exit_code Done = 0

@@ -1,6 +1,6 @@
 //! How the program ends.
 ghost use Rattle.std.specs.Prelude.{◌≡◌};
-ghost use Rattle.pegaudit.specs.Exits.{exit_code};
+ghost use Rattle.audit_telling.specs.Exits.{exit_code};
 
 use std::io;
 
