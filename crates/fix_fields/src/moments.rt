@@ -3,7 +3,7 @@ ghost use Rattle.std.specs.Prelude.{◌≡◌, ◌<◌, ◌≤◌, length, IfSom
 ghost use Rattle.fix_fields.specs.Forms.{civil_day, day_number, second_of_day, milliseconds, moment_of};
 
 use crate::forms::numeral;
-use jiff::civil::Date;
+use jiff_core::civil::Date;
 
 /// The first millisecond of the year 0000 and the last of the year 9999, counted from 1970-01-01 00:00 UTC.
 pub const FIRST_MOMENT: i64 = -62_167_219_200_000;
@@ -19,7 +19,7 @@ fn civil_day(year: u64, month: u64, day: u64) -> Option<i64>
     ensures bound { IfSome result (λ number. (neg_ℤ (pos 719_528) ≤ℤ number) × (number ≤ℤ pos 2_932_896)) }
 {
     match Date::new(year as i16, month as i8, day as i8) {
-        Ok(date) => Some(date.to_plain().to_unix_epoch_day() as i64),
+        Ok(date) => Some(date.to_unix_epoch_day() as i64),
         Err(_) => None,
     }
 }

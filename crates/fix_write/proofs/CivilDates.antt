@@ -1,5 +1,5 @@
 -- The date that is computed is the calendar's.
-use Rattle.std.proofs.Common.{◌≡◌, ℕ, suc, ◌+◌, ◌-◌, ◌<◌, ◌≤◌, leb, pos, ◌+ℤ◌, ◌∙◌, ap, arith, inl, inr, true, false, lit<, lit≤}
+use Rattle.std.proofs.Common.{◌≡◌, ℕ, suc, ◌+◌, ◌-◌, ◌<◌, ◌≤◌, leb, pos, ◌+ℤ◌, ◌∙◌, ap, arith, inl, inr, true, false}
 use Rattle.std.proofs.lemmas.Bool.{cases_lt, le-leb}
 use Rattle.jiff_core.specs.Calendar.{day_count, days_from_civil, IsCivilDate}
 use Rattle.jiff_core.specs.Date.{epoch_day}
@@ -80,13 +80,6 @@ civil_is day h d e =
           let test : leb (march_month (day + 3652365)) 12 ≡ true = le-leb _ _ late in
           rw test (same_parts d _ _ _ day (late_valid (day + 3652365) (omega arith) (omega arith) late) (omega (arith, late_count (day + 3652365) (omega arith) (omega arith) late)) e)
     ]
-
-zero_count : day_count (pos 0) 1 1 ≡ 3652425
-zero_count = early_count 3652365 (lit≤ tt) (lit< tt) (lit< tt)
-
--- the day number of 0000-01-01
-pub zero_day : days_from_civil (pos 0) 1 1 +ℤ pos 719528 ≡ pos 0
-zero_day = omega (arith, signed_arith, days_from_civil-day_count (pos 0) 1 1, zero_count)
 
 -- the calendar has the date that is computed
 pub civil_valid : (day : ℕ) → day < 3652425 → IsCivilDate (pos (civil_of day).year) (civil_of day).month (civil_of day).day

@@ -1,11 +1,9 @@
 //! Moments as FIX writes them.
 ghost use Rattle.std.specs.Prelude.{◌≡◌, ◌<◌, ◌++◌, pos, ◌+ℤ◌, OnOk};
-ghost use Rattle.jiff.specs.Words.{epoch_day, IsEpochDay};
 ghost use Rattle.fix_write.specs.Moments.{civil_of, date_text, clock_text, milliseconds_of, moment_text};
 
 use crate::digits::digit;
-use jiff::ToSpan;
-use jiff::civil::Date;
+use jiff_core::civil::Date;
 use venue_words::NoMemory;
 
 /// The milliseconds from 0000-01-01 to 1970-01-01.
@@ -16,14 +14,8 @@ const LAST: i64 = 253_402_300_799_999;
 
 const DAY: u64 = 86_400_000;
 
-/// The date that comes so many days after another one.
-fn days_after(first: Date, days: u32) -> Date
-    requires in_range { IsEpochDay (epoch_day first +ℤ pos days) }
-    requires few { days < 3_652_425 }
-    ensures { epoch_day result ≡ epoch_day first +ℤ pos days }
-{
-    first.saturating_add(i64::from(days).days())
-}
+/// The days from -9999-01-01, the calendar's first, to 0000-01-01.
+const FIRST_DAY: u32 = 3_652_059;
 
 /// The date of a day, which is counted from 0000-01-01.
 fn date_of(day: u32) -> Date
@@ -32,7 +24,7 @@ fn date_of(day: u32) -> Date
     ensures month { result.month ≡ (civil_of day).month }
     ensures day_of_month { result.day ≡ (civil_of day).day }
 {
-    days_after(Date::ZERO, day)
+    Date::from_days_since_min(FIRST_DAY + day)
 }
 
 /// `YYYYMMDD` of a day, which is counted from 0000-01-01.
@@ -42,9 +34,9 @@ fn date_digits(day: u32) -> [u8; 8]
     ensures { result ≡ date_text day }
 {
     let date = date_of(day);
-    let year = u32::from(date.year().unsigned_abs());
-    let month = u32::from(date.month().unsigned_abs());
-    let day = u32::from(date.day().unsigned_abs());
+    let year = u32::from(date.year.unsigned_abs());
+    let month = u32::from(date.month);
+    let day = u32::from(date.day);
     [
         digit(year / 1000),
         digit(year / 100),
