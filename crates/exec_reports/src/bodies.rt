@@ -17,7 +17,7 @@ use crate::tags::{
     ORIG_CL_ORD_ID, PEGGED_PRICE, PRICE, PRIORITY_EVENT, RULE_NUMBER, SIDE, SYMBOL, TRANSACT_TIME,
 };
 use crate::texts::{push_amount, push_average, push_exec_id, push_order_id, push_price};
-use fix_write::digits::push_number;
+use fix_write::digits::push_ended;
 use fix_write::{push_byte_field, push_field, push_moment_field, push_number_field};
 use std::alloc::Global;
 use venue_words::limits::SOH;
@@ -27,9 +27,7 @@ use venue_words::{Kind, NoMemory, Report};
 fn push_tag(out: &mut Vec<u8>, tag: u32) -> Result<(), NoMemory>
     ensures { OnOk result (out.new.items ≡ out.old.items ++ decimal tag ++ 61 ∷ []) }
 {
-    push_number(out, u64::from(tag))?;
-    out.push(b'=')?;
-    Ok(())
+    push_ended(out, u64::from(tag), b'=')
 }
 
 #[tactic(auto, unfolding(fix_write::specs::Fields::field))]

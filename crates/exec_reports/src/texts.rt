@@ -2,7 +2,7 @@
 ghost use Rattle.std.specs.Prelude.{◌≡◌, ◌<◌, ◌^◌, ◌++◌, decimal, OnOk};
 ghost use Rattle.exec_reports.specs.Texts.{order_id, exec_id, ten_thousandths, price_text, average_text, padded, trimmed, magnitude_text, amount_text};
 
-use fix_write::digits::{push_four, push_number};
+use fix_write::digits::{push_ended, push_four, push_number};
 use itoa::Buffer;
 use venue_words::NoMemory;
 
@@ -53,8 +53,7 @@ fn push_ten_thousandths(out: &mut Vec<u8>, number: u128) -> Result<(), NoMemory>
     requires { number < 2 ^ 70 }
     ensures { OnOk result (out.new.items ≡ out.old.items ++ ten_thousandths number) }
 {
-    push_number(out, (number / 10_000) as u64)?;
-    out.push(b'.')?;
+    push_ended(out, (number / 10_000) as u64, b'.')?;
     push_four(out, (number % 10_000) as u32)
 }
 
@@ -63,8 +62,7 @@ fn push_ten_thousandths(out: &mut Vec<u8>, number: u128) -> Result<(), NoMemory>
 pub fn push_price(out: &mut Vec<u8>, units: u32) -> Result<(), NoMemory>
     ensures { OnOk result (out.new.items ≡ out.old.items ++ price_text units) }
 {
-    push_number(out, u64::from(units / 200))?;
-    out.push(b'.')?;
+    push_ended(out, u64::from(units / 200), b'.')?;
     push_four(out, units % 200 * 50)
 }
 

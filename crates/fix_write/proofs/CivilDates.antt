@@ -1,7 +1,7 @@
 -- The date that is computed is the calendar's.
 use Rattle.std.proofs.Common.{◌≡◌, ℕ, suc, ◌+◌, ◌-◌, ◌<◌, ◌≤◌, leb, pos, ◌+ℤ◌, ◌∙◌, ap, arith, inl, inr, true, false}
 use Rattle.std.proofs.lemmas.Bool.{cases_lt, le-leb}
-use Rattle.jiff_core.specs.Calendar.{day_count, days_from_civil, IsCivilDate}
+use Rattle.jiff_core.specs.Calendar.{day_count, IsCivilDate}
 use Rattle.jiff_core.specs.Date.{epoch_day}
 use Rattle.jiff_core.specs.March.{march_days}
 use Rattle.jiff_core.specs.declared.civil.date.Date.{Date}

@@ -1,2 +1,3 @@
 pub mod CivilDates
 pub mod LengthSteps
+pub mod SmallDecimals

@@ -1,5 +1,5 @@
 //! Numbers as digits.
-ghost use Rattle.std.specs.Prelude.{◌≡◌, ◌++◌, decimal, OnOk};
+ghost use Rattle.std.specs.Prelude.{◌≡◌, ◌++◌, ◌∷◌, [], decimal, OnOk};
 ghost use Rattle.fix_write.specs.Digits.{digit, three_digits, four_digits};
 
 use itoa::Buffer;
@@ -40,5 +40,35 @@ pub fn push_number(out: &mut Vec<u8>, number: u64) -> Result<(), NoMemory>
 {
     let mut buffer = Buffer::new();
     out.extend_from_slice(buffer.format(number).as_bytes())?;
+    Ok(())
+}
+
+/// Appends a number without leading zeros, and a byte behind it. After a refusal the text may hold a part of both.
+#[inline]
+pub fn push_ended(out: &mut Vec<u8>, number: u64, end: u8) -> Result<(), NoMemory>
+    ensures { OnOk result (out.new.items ≡ out.old.items ++ decimal number ++ end ∷ []) }
+{
+    // Tags and most counts have few digits, which are appended at once.
+    if number >= 10_000 {
+        push_number(out, number)?;
+        out.push(end)?;
+        return Ok(());
+    }
+    let number = number as u32;
+    if number >= 1000 {
+        out.extend_from_slice(&[
+            digit(number / 1000),
+            digit(number / 100),
+            digit(number / 10),
+            digit(number),
+            end,
+        ])?;
+    } else if number >= 100 {
+        out.extend_from_slice(&[digit(number / 100), digit(number / 10), digit(number), end])?;
+    } else if number >= 10 {
+        out.extend_from_slice(&[digit(number / 10), digit(number), end])?;
+    } else {
+        out.extend_from_slice(&[digit(number), end])?;
+    }
     Ok(())
 }
