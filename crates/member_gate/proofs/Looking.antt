@@ -1,5 +1,5 @@
 -- Symbol by symbol a member's reports are gathered.
-use Rattle.std.proofs.Common.{◌≡◌, ◌≢◌, ◌⊎◌, inl, inr, ℕ, ◌+◌, ◌-◌, ◌<◌, ◌≤◌, max, List, [], ◌∷◌, ◌++◌, length, take, drop, get_or, refl, sym, ◌∙◌, ap, subst, arith, append_assoc, length-append}
+use Rattle.std.proofs.Common.{◌≡◌, ◌≢◌, ◌⊎◌, inl, inr, ℕ, ◌+◌, ◌-◌, ◌<◌, ◌≤◌, max, Bool, true, false, List, [], ◌∷◌, ◌++◌, length, take, drop, get_or, refl, sym, ◌∙◌, ap, subst, arith, append_assoc, length-append}
 use Rattle.std.proofs.lemmas.List.{append-nil, take_more, get_or_append_left, get_or-append_right, get_or-drop, length-take-le}
 use Rattle.std.proofs.lemmas.Bool.{cases_lt}
 use Rattle.std.proofs.lemmas.Option.{unwrap_or-slice_get}
@@ -12,7 +12,8 @@ use Rattle.venue_words.specs.Floors.{SymbolView}
 use Rattle.session_core.specs.declared.message.Message.{Message}
 use Rattle.member_gate.specs.Answering.{name_at}
 use Rattle.member_gate.specs.Submitting.{Waited}
-use Rattle.member_gate.specs.Reporting.{cursor_at, messages_at, messages_from, messages_past, MovedOn, IsAskedForNews}
+use Rattle.member_gate.specs.QuietLaws.{none_behind}
+use Rattle.member_gate.specs.Reporting.{cursor_at, asked_at, where_asked, messages_at, messages_from, messages_past, HasNoNews, MovedOn, IsAskedForNews}
 use Rattle.member_gate.proofs.Taking.{waited_self}
 
 messages_same : (config : Config) (member : ℕ) (cursors : List ℕ) (before after : ℕ → List Report) (number : ℕ) (symbols : List (List ℕ)) → ((k : ℕ) → k < number + length symbols → after k ≡ before k)
@@ -34,14 +35,17 @@ messages_snoc config member cursors reports number place (first ∷ symbols) sym
     ap (λ (ms : List Message). front ++ ms) (messages_snoc config member cursors reports (number + 1) place symbols symbol (omega arith))
     ∙ sym (append_assoc front (messages_from config member cursors reports (number + 1) symbols) (messages_at config member symbol (cursor_at cursors place) (reports place)))
 
--- `asked` is what each look does to its symbol
-module _ {F : Type 0} (at : F → ℕ → SymbolView) (config : Config) (member : ℕ) (cursors : List ℕ) (asked : ℕ → SymbolView → SymbolView → Type 0) where
+-- `seen` is which of its reports a look reads, and `asked` what it does to its symbol
+module _ {F : Type 0} (at : F → ℕ → SymbolView) (config : Config) (member : ℕ) (cursors : List ℕ) (seen : ℕ → List Report → List Report) (asked : ℕ → SymbolView → SymbolView → Type 0) where
   abbrev reports_at : F → ℕ → List Report
   reports_at floor symbol = (at floor symbol).reports
 
+  abbrev seen_at : F → ℕ → List Report
+  seen_at floor = λ symbol. seen symbol (at floor symbol).reports
+
   -- the first symbols, so many, were asked for
   pub record Looked (before : F) (count : ℕ) (now : F) (messages : List Message) (fronts : List ℕ) : Type 0 where
-    pub messages_are : messages ≡ messages_from config member cursors (reports_at now) 0 (take count config.symbols)
+    pub messages_are : messages ≡ messages_from config member cursors (seen_at now) 0 (take count config.symbols)
     pub many : length fronts ≡ count
     pub fronts_are : (symbol : ℕ) → symbol < count → get_or fronts symbol 0 ≡ max (cursor_at cursors symbol) (length (reports_at now symbol))
     pub waited : (symbol : ℕ) → Waited (at before symbol) (at now symbol)
@@ -73,7 +77,7 @@ module _ {F : Type 0} (at : F → ℕ → SymbolView) (config : Config) (member 
   pub looked_more : (before : F) (count : ℕ) (now next : F) (messages more : List Message) (fronts further : List ℕ) (front : ℕ)
       → Looked before count now messages fronts → count < length config.symbols
       → ((other : ℕ) → other ≢ count → at next other ≡ at now other) → Waited (at now count) (at next count) → asked count (at now count) (at next count)
-      → more ≡ messages ++ messages_at config member (name_at config.symbols count) (cursor_at cursors count) (reports_at next count)
+      → more ≡ messages ++ messages_at config member (name_at config.symbols count) (cursor_at cursors count) (seen_at next count)
       → front ≡ length (reports_at next count) → further ≡ fronts ++ max (cursor_at cursors count) front ∷ []
       → Looked before (count + 1) next more further
   looked_more before count now next messages more fronts further front l inside others waited rose m f s =
@@ -82,13 +86,13 @@ module _ {F : Type 0} (at : F → ℕ → SymbolView) (config : Config) (member 
       let place : 0 + length shown ≡ count = omega (arith, few) in
       let name : get_or config.symbols count [] ≡ name_at config.symbols count = sym (unwrap_or-slice_get config.symbols count []) in
       let names : take (count + 1) config.symbols ≡ shown ++ name_at config.symbols count ∷ [] = take_more config.symbols count [] inside ∙ ap (λ (x : List ℕ). shown ++ x ∷ []) name in
-      let kept : messages_from config member cursors (reports_at next) 0 shown ≡ messages_from config member cursors (reports_at now) 0 shown =
-      messages_same config member cursors (reports_at now) (reports_at next) 0 shown (λ k h. ap (λ (v : SymbolView). v.reports) (others k (λ e. absurd (omega arith)))) in
-      let added = messages_snoc config member cursors (reports_at next) 0 count shown (name_at config.symbols count) place in
-      let here = messages_at config member (name_at config.symbols count) (cursor_at cursors count) (reports_at next count) in record {
+      let kept : messages_from config member cursors (seen_at next) 0 shown ≡ messages_from config member cursors (seen_at now) 0 shown =
+      messages_same config member cursors (seen_at now) (seen_at next) 0 shown (λ k h. ap (λ (v : SymbolView). seen k v.reports) (others k (λ e. absurd (omega arith)))) in
+      let added = messages_snoc config member cursors (seen_at next) 0 count shown (name_at config.symbols count) place in
+      let here = messages_at config member (name_at config.symbols count) (cursor_at cursors count) (seen_at next count) in record {
         messages_are =
             m ∙ ap (λ (ms : List Message). ms ++ here) (l.messages_are ∙ sym kept) ∙ sym added
-            ∙ ap (messages_from config member cursors (reports_at next) 0) (sym names);
+            ∙ ap (messages_from config member cursors (seen_at next) 0) (sym names);
         many = ap length s ∙ length-append fronts _ ∙ ap (λ (k : ℕ). k + 1) l.many;
         fronts_are = λ symbol h.
             dite (ℕ_discrete symbol count)
@@ -115,37 +119,51 @@ module _ {F : Type 0} (at : F → ℕ → SymbolView) (config : Config) (member 
             ∙ get_or-drop count cursors (symbol - count) 0 ∙ ap (λ (k : ℕ). get_or cursors k 0) place;
       }
 
-  pub all_messages : (before now : F) (messages : List Message) (fronts : List ℕ) → Looked before (length config.symbols) now messages fronts → messages ≡ messages_past config member cursors (reports_at now)
-  all_messages before now messages fronts l = l.messages_are ∙ ap (messages_from config member cursors (reports_at now) 0) (take-length config.symbols)
+  pub all_messages : (before now : F) (messages : List Message) (fronts : List ℕ) → Looked before (length config.symbols) now messages fronts → messages ≡ messages_past config member cursors (seen_at now)
+  all_messages before now messages fronts l = l.messages_are ∙ ap (messages_from config member cursors (seen_at now) 0) (take-length config.symbols)
+
+-- where every symbol is looked at
+abbrev pub all_seen : ℕ → List Report → List Report
+all_seen _ reports = reports
 
 -- ---- where only symbols with news are asked for
 
-abbrev pub for_news : List ℕ → ℕ → SymbolView → SymbolView → Type 0
-for_news cursors symbol before after = IsAskedForNews (cursor_at cursors symbol) before after
+abbrev pub asked_seen : List Bool → ℕ → List Report → List Report
+asked_seen asked symbol reports = where_asked (asked_at asked symbol) reports
 
-module _ {F : Type 0} (at : F → ℕ → SymbolView) (cursors : List ℕ) where
-  stays_at : (before now : F) (count symbol : ℕ) → ((other : ℕ) → other < count → for_news cursors other (at before other) (at now other))
-      → ((other : ℕ) → count ≤ other → at now other ≡ at before other) → length (at before symbol).reports ≤ cursor_at cursors symbol
+abbrev pub for_news : List Bool → List ℕ → ℕ → SymbolView → SymbolView → Type 0
+for_news asked cursors symbol before after = IsAskedForNews (asked_at asked symbol) (cursor_at cursors symbol) before after
+
+-- a symbol without news has no messages
+pub no_messages : (config : Config) (member : ℕ) (symbol : List ℕ) (from : ℕ) (reports : List Report) (is : Bool)
+    → (is ≡ true → length reports ≤ from) → messages_at config member symbol from (where_asked is reports) ≡ []
+no_messages config member symbol from reports true read = none_behind config member symbol from reports (read refl)
+no_messages config member symbol from reports false read = none_behind config member symbol from [] (omega arith)
+
+module _ {F : Type 0} (at : F → ℕ → SymbolView) (asked : List Bool) (cursors : List ℕ) where
+  stays_at : (before now : F) (count symbol : ℕ) → ((other : ℕ) → other < count → for_news asked cursors other (at before other) (at now other))
+      → ((other : ℕ) → count ≤ other → at now other ≡ at before other) → HasNoNews (asked_at asked symbol) (cursor_at cursors symbol) (at before symbol)
       → (symbol < count) ⊎ (count ≤ symbol) → at now symbol ≡ at before symbol
   stays_at before now count symbol each ahead h (inl l) = (each symbol l).unasked h
   stays_at before now count symbol each ahead h (inr l) = ahead symbol l
 
-  -- a symbol with nothing past its cursor is as it was
-  pub stays : (before now : F) (count : ℕ) → ((other : ℕ) → other < count → for_news cursors other (at before other) (at now other))
+  -- a symbol without news is as it was
+  pub stays : (before now : F) (count : ℕ) → ((other : ℕ) → other < count → for_news asked cursors other (at before other) (at now other))
       → ((other : ℕ) → count ≤ other → at now other ≡ at before other)
-      → (symbol : ℕ) → length (at before symbol).reports ≤ cursor_at cursors symbol → at now symbol ≡ at before symbol
+      → (symbol : ℕ) → HasNoNews (asked_at asked symbol) (cursor_at cursors symbol) (at before symbol) → at now symbol ≡ at before symbol
   stays before now count each ahead symbol h = stays_at before now count symbol each ahead h (cases_lt symbol count)
 
   -- and still so behind one more look
-  pub stays_on : (before now next : F) (count from : ℕ) → ((other : ℕ) → other < count → for_news cursors other (at before other) (at now other))
+  pub stays_on : (before now next : F) (count from : ℕ) (is : Bool) → ((other : ℕ) → other < count → for_news asked cursors other (at before other) (at now other))
       → ((other : ℕ) → count ≤ other → at now other ≡ at before other)
-      → ((other : ℕ) → other ≢ count → at next other ≡ at now other) → from ≡ cursor_at cursors count
-      → (length (at now count).reports ≤ from → at next count ≡ at now count)
-      → (symbol : ℕ) → length (at before symbol).reports ≤ cursor_at cursors symbol → at next symbol ≡ at before symbol
-  stays_on before now next count from each ahead others e unasked symbol h =
+      → ((other : ℕ) → other ≢ count → at next other ≡ at now other) → from ≡ cursor_at cursors count → is ≡ asked_at asked count
+      → (HasNoNews is from (at now count) → at next count ≡ at now count)
+      → (symbol : ℕ) → HasNoNews (asked_at asked symbol) (cursor_at cursors symbol) (at before symbol) → at next symbol ≡ at before symbol
+  stays_on before now next count from is each ahead others e f unasked symbol h =
       let here = ahead count (omega arith) in
       dite (ℕ_discrete symbol count)
-      (λ is. subst (λ (k : ℕ). at next k ≡ at before k) (sym is)
-      (unasked (subst (λ (v : SymbolView). length v.reports ≤ from) (sym here) (subst (λ (k : ℕ). length (at before count).reports ≤ k) (sym e)
-      (subst (λ (k : ℕ). length (at before k).reports ≤ cursor_at cursors k) is h))) ∙ here))
+      (λ same. subst (λ (k : ℕ). at next k ≡ at before k) (sym same)
+      (unasked (subst (λ (v : SymbolView). HasNoNews is from v) (sym here) (subst (λ (b : Bool). HasNoNews b from (at before count)) (sym f)
+      (subst (λ (k : ℕ). HasNoNews (asked_at asked count) k (at before count)) (sym e)
+      (subst (λ (k : ℕ). HasNoNews (asked_at asked k) (cursor_at cursors k) (at before k)) same h)))) ∙ here))
       (λ not. others symbol not ∙ stays before now count each ahead symbol h)

@@ -1,5 +1,5 @@
 -- A member's reports past the cursors of his desk.
-use Rattle.std.specs.Prelude.{◌≡◌, ℕ, ◌+◌, ◌<◌, ◌≤◌, max, List, [], ◌∷◌, ◌++◌, map, length, slice_index}
+use Rattle.std.specs.Prelude.{◌≡◌, ◌⊎◌, ℕ, ◌+◌, ◌<◌, ◌≤◌, max, Bool, true, false, if◌then◌else◌, List, [], ◌∷◌, ◌++◌, map, length, slice_index, slice_index_or}
 use Rattle.venue_words.specs.declared.config.Config.{Config}
 use Rattle.venue_words.specs.declared.report.Report.{Report}
 use Rattle.venue_words.specs.Floors.{SymbolView, TurnsRose}
@@ -32,18 +32,37 @@ pub record MovedOn (symbols : ℕ) (reports : ℕ → List Report) (before after
   pub read : (symbol : ℕ) → symbol < symbols → cursor_at after symbol ≡ max (cursor_at before symbol) (length (reports symbol))
   pub rest : (symbol : ℕ) → symbols ≤ symbol → cursor_at after symbol ≡ cursor_at before symbol
 
--- some symbol has more reports than were gone through; the fronts tell how many each symbol has
-pub record ArePast (fronts cursors : List ℕ) : Type 0 where
-  pub symbol : ℕ
-  pub told : symbol < length fronts
-  pub past : cursor_at cursors symbol < slice_index fronts symbol
-
 -- how many reports each of so many symbols has
 pub record AreFronts (symbols : ℕ) (reports : ℕ → List Report) (fronts : List ℕ) : Type 0 where
   pub each : length fronts ≡ symbols
   pub read : (symbol : ℕ) → symbol < symbols → slice_index fronts symbol ≡ length (reports symbol)
 
--- a symbol was asked for its reports exactly where it has some past the cursor
-pub record IsAskedForNews (cursor : ℕ) (before after : SymbolView) : Type 0 where
-  pub unasked : length before.reports ≤ cursor → after ≡ before
-  pub rose : cursor < length before.reports → TurnsRose before.turns after.turns
+-- ---- where only some symbols are asked
+
+-- whether a symbol is asked for a member's reports
+abbrev pub asked_at : List Bool → ℕ → Bool
+asked_at asked symbol = slice_index_or asked symbol false
+
+-- the reports of a symbol that is asked; none of another
+abbrev pub where_asked : Bool → List Report → List Report
+where_asked asked reports = if asked then reports else []
+
+-- the reports of the symbols that are asked
+abbrev pub asked_reports : List Bool → (ℕ → List Report) → ℕ → List Report
+asked_reports asked reports = λ symbol. where_asked (asked_at asked symbol) (reports symbol)
+
+-- some symbol that is asked has more reports than were gone through; the fronts tell how many each symbol has
+pub record ArePast (fronts : List ℕ) (asked : List Bool) (cursors : List ℕ) : Type 0 where
+  pub symbol : ℕ
+  pub told : symbol < length fronts
+  pub is_asked : asked_at asked symbol ≡ true
+  pub past : cursor_at cursors symbol < slice_index fronts symbol
+
+-- a symbol is not asked, or no report of it stands past the cursor
+abbrev pub HasNoNews : Bool → ℕ → SymbolView → Type 0
+HasNoNews asked cursor view = (asked ≡ false) ⊎ (length view.reports ≤ cursor)
+
+-- the floor was called for a symbol's reports exactly where it is asked and some stand past the cursor
+pub record IsAskedForNews (asked : Bool) (cursor : ℕ) (before after : SymbolView) : Type 0 where
+  pub unasked : HasNoNews asked cursor before → after ≡ before
+  pub rose : asked ≡ true → cursor < length before.reports → TurnsRose before.turns after.turns

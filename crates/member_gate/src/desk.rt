@@ -1,5 +1,5 @@
 //! The desk of a member.
-ghost use Rattle.std.specs.Prelude.{◌≡◌, ◌≤◌, ◌<◌, ◌++◌, ◌⊎◌, ℕ, [], true, false, length, IfOk, OnOk, OnErr, IfErr, IsOk};
+ghost use Rattle.std.specs.Prelude.{◌≡◌, ◌↔◌, ◌≤◌, ◌<◌, ◌++◌, ◌⊎◌, ℕ, [], true, false, length, IfOk, OnOk, OnErr, IfErr, IsOk, IsTrue};
 ghost use Rattle.venue_words.specs.Conditions.{IsConfig};
 ghost use Rattle.venue_words.specs.Floors.{IsSetUpFor, TurnsRose};
 ghost use Rattle.venue_words.specs.declared.limits.TheConstants.{MAX_FRAME_BYTES};
@@ -8,8 +8,9 @@ ghost use Rattle.session_core.specs.Runs.{send_if_up};
 ghost use Rattle.fix_frames.specs.Reading.{reading_of};
 ghost use Rattle.member_gate.specs.Submitting.{TookAll, Stopped, Waited};
 ghost use Rattle.member_gate.specs.Working.{AreUnread, work_of_reading};
-ghost use Rattle.member_gate.specs.Reporting.{cursor_at, messages_past, AreFronts, ArePast, MovedOn};
+ghost use Rattle.member_gate.specs.Reporting.{cursor_at, asked_at, asked_reports, messages_past, AreFronts, ArePast, HasNoNews, MovedOn};
 
+use crate::awaited::Awaited;
 use crate::names::name_at;
 use crate::origin::Origin;
 use crate::refusal::DeskRefusal;
@@ -219,14 +220,22 @@ impl Desk {
         self.submitted
     }
 
-    /// Whether the session is up and some symbol has reports past its cursor, where `fronts` tells, by symbol in the
-    /// config's order, how many there are. Where it has none, `pull` sends nothing and moves no cursor.
-    pub fn has_news(&self, fronts: &[u32]) -> bool
-        ensures up { result ≡ true → IsUp self.now.session }
-        ensures past { result ≡ true → ArePast fronts.now self.now.cursors }
-        ensures none { result ≡ false → IsUp self.now.session → ArePast fronts.now self.now.cursors → ⊥ }
+    /// Whether the member's session is up: a Logon was taken, and the connection has not ended.
+    pub fn is_up(&self) -> bool
+        ensures { IsTrue result ↔ IsUp self.now.session }
     {
-        self.session.is_up() && are_past(fronts, &self.cursors)
+        self.session.is_up()
+    }
+
+    /// Whether the session is up and some symbol that is asked has reports past its cursor, of any member. Where all symbols are
+    /// asked and none has, `pull` sends nothing and moves no cursor.
+    pub fn has_news(&self, awaited: Awaited<'_>) -> bool
+        ensures up { result ≡ true → IsUp self.now.session }
+        ensures past { result ≡ true → ArePast awaited.entry.fronts.now awaited.entry.asked.now self.now.cursors }
+        ensures none { result ≡ false → IsUp self.now.session
+            → ArePast awaited.entry.fronts.now awaited.entry.asked.now self.now.cursors → ⊥ }
+    {
+        self.session.is_up() && are_past(awaited, &self.cursors)
     }
 
     /// The member's reports past the cursors, framed with the session's next numbers, at a moment in milliseconds since
@@ -287,25 +296,28 @@ impl Desk {
         Ok(frames)
     }
 
-    /// As `pull`, for a caller who knows how many reports each symbol has, by symbol in the config's order: the floor is asked
-    /// only for symbols with reports past the cursor.
+    /// As `pull`, for a caller who knows how many reports each symbol has, and at which symbols some of the member's may wait:
+    /// only these symbols are asked, and of them only those with reports past the cursor. Every cursor goes on, so where reports
+    /// waited at a symbol that is not asked, these are never sent.
     pub fn pull_news<F: Floor>(
         &mut self,
         floor: &mut F,
         config: &Config,
-        fronts: &[u32],
+        awaited: Awaited<'_>,
         moment: i64,
     ) -> Result<Vec<Bytes>, NoMemory>
         requires config { IsConfig config.now }
         requires setup { IsSetUpFor config.now (F.mark floor.old).setup }
         requires member { self.old.member < length config.now.members }
-        requires fronts { AreFronts (length config.now.symbols) (λ symbol. (F.at floor.old symbol).reports) fronts.now }
+        requires awaited { AreFronts (length config.now.symbols) (λ symbol. (F.at floor.old symbol).reports) awaited.fronts.now }
 
         // What is sent.
         ensures frames { IfOk result (λ frames. frames.items ≡ (send_if_up self.old.session (messages_past config.now
-            self.old.member self.old.cursors (λ symbol. (F.at floor.new symbol).reports)) moment).turn.replies) }
+            self.old.member self.old.cursors (asked_reports awaited.entry.asked.now (λ symbol. (F.at floor.new symbol).reports)))
+            moment).turn.replies) }
         ensures session { OnOk result (self.new.session ≡ (send_if_up self.old.session (messages_past config.now
-            self.old.member self.old.cursors (λ symbol. (F.at floor.new symbol).reports)) moment).machine) }
+            self.old.member self.old.cursors (asked_reports awaited.entry.asked.now (λ symbol. (F.at floor.new symbol).reports)))
+            moment).machine) }
         ensures cursors { OnOk result (IsUp self.old.session → MovedOn (length config.now.symbols)
             (λ symbol. (F.at floor.new symbol).reports) self.old.cursors self.new.cursors) }
 
@@ -317,10 +329,11 @@ impl Desk {
         ensures waited { (symbol : ℕ) → Waited (F.at floor.old symbol) (F.at floor.new symbol) }
         ensures others { (symbol : ℕ) → length config.now.symbols ≤ symbol
             → F.at floor.new symbol ≡ F.at floor.old symbol }
-        ensures unasked { (symbol : ℕ) → length (F.at floor.old symbol).reports ≤ cursor_at self.old.cursors symbol
+        ensures unasked { (symbol : ℕ)
+            → HasNoNews (asked_at awaited.entry.asked.now symbol) (cursor_at self.old.cursors symbol) (F.at floor.old symbol)
             → F.at floor.new symbol ≡ F.at floor.old symbol }
         ensures turns { OnOk result (IsUp self.old.session → (symbol : ℕ) → symbol < length config.now.symbols
-            → cursor_at self.old.cursors symbol < length (F.at floor.old symbol).reports
+            → asked_at awaited.entry.asked.now symbol ≡ true → cursor_at self.old.cursors symbol < length (F.at floor.old symbol).reports
             → TurnsRose (F.at floor.old symbol).turns (F.at floor.new symbol).turns) }
 
         // What stays.
@@ -340,7 +353,7 @@ impl Desk {
             config,
             self.member,
             &self.cursors,
-            fronts,
+            awaited,
             &mut messages,
             &mut self.fronts,
         )?;

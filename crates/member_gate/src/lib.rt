@@ -3,6 +3,7 @@
 #![tactic(auto)]
 
 mod answering;
+mod awaited;
 pub mod business;
 mod desk;
 mod desk_cell;
@@ -17,6 +18,7 @@ mod submitting;
 mod worked;
 mod working;
 
+pub use awaited::Awaited;
 pub use desk::Desk;
 pub use desk_cell::{CellDesks, DeskCell};
 pub use desk_table::DeskTable;

@@ -4,8 +4,9 @@ ghost use Rattle.venue_words.specs.Conditions.{IsConfig};
 ghost use Rattle.venue_words.specs.Floors.{IsSetUpFor, TurnsRose};
 ghost use Rattle.member_gate.specs.Answering.{name_at, message_of};
 ghost use Rattle.member_gate.specs.Submitting.{Waited};
-ghost use Rattle.member_gate.specs.Reporting.{cursor_at, messages_at, messages_past, AreFronts, ArePast, MovedOn};
+ghost use Rattle.member_gate.specs.Reporting.{cursor_at, asked_at, where_asked, asked_reports, messages_at, messages_past, AreFronts, ArePast, HasNoNews, MovedOn};
 
+use crate::awaited::Awaited;
 use crate::names::name_at;
 use exec_reports::{body, kind};
 use session_core::Message;
@@ -22,13 +23,23 @@ fn cursor_at(cursors: &[u32], symbol: usize) -> u32
     }
 }
 
-/// Whether some symbol has more reports than were gone through, where `fronts` tells how many each has.
-pub fn are_past(fronts: &[u32], cursors: &[u32]) -> bool
-    ensures past { result ≡ true → ArePast fronts.now cursors.now }
-    ensures none { result ≡ false → ArePast fronts.now cursors.now → ⊥ }
+/// Whether a symbol is asked.
+fn is_asked(asked: &[bool], symbol: usize) -> bool
+    ensures { result ≡ asked_at asked.now symbol }
 {
-    for symbol in 0..fronts.len() {
-        if cursor_at(cursors, symbol) < fronts[symbol] {
+    match asked.get(symbol) {
+        Some(is) => *is,
+        None => false,
+    }
+}
+
+/// Whether some symbol that is asked has more reports than were gone through.
+pub fn are_past(awaited: Awaited<'_>, cursors: &[u32]) -> bool
+    ensures past { result ≡ true → ArePast awaited.entry.fronts.now awaited.entry.asked.now cursors.now }
+    ensures none { result ≡ false → ArePast awaited.entry.fronts.now awaited.entry.asked.now cursors.now → ⊥ }
+{
+    for symbol in 0..awaited.fronts.len() {
+        if is_asked(awaited.asked, symbol) && cursor_at(cursors, symbol) < awaited.fronts[symbol] {
             return true;
         }
     }
@@ -143,84 +154,95 @@ pub fn look_all<F: Floor>(
     Ok(())
 }
 
-/// Adds the member's reports of a symbol from a position on, as messages, where there are any, and answers how many
-/// reports there are: as many as are known.
+/// What is known of a symbol before it is asked.
+#[derive(Clone, Copy)]
+struct KnownSymbol {
+    symbol: u32,
+    /// How many of its reports were gone through.
+    from: u32,
+    /// How many it has.
+    front: u32,
+    asked: bool,
+}
+
+/// Adds the member's reports of a symbol past those that were gone through, as messages, where it is asked and has more, and
+/// answers how many reports there are.
 fn look_where_past<F: Floor>(
     alloc: Global,
     floor: &mut F,
     config: &Config,
     member: u32,
-    symbol: u32,
-    from: u32,
-    known: u32,
+    known: KnownSymbol,
     messages: &mut Vec<Message>,
 ) -> Result<u32, NoMemory>
     requires config { IsConfig config.now }
     requires setup { IsSetUpFor config.now (F.mark floor.old).setup }
     requires member { member < length config.now.members }
-    requires symbol { symbol < length config.now.symbols }
-    requires known { known ≡ length (F.at floor.old symbol).reports }
+    requires symbol { known.symbol < length config.now.symbols }
+    requires front { known.front ≡ length (F.at floor.old known.symbol).reports }
     ensures mark { F.mark floor.new ≡ F.mark floor.old }
-    ensures others { (other : ℕ) → other ≢ symbol → F.at floor.new other ≡ F.at floor.old other }
-    ensures waited { Waited (F.at floor.old symbol) (F.at floor.new symbol) }
-    ensures unasked { length (F.at floor.old symbol).reports ≤ from → F.at floor.new symbol ≡ F.at floor.old symbol }
-    ensures turns { OnOk result (from < length (F.at floor.old symbol).reports
-        → TurnsRose (F.at floor.old symbol).turns (F.at floor.new symbol).turns) }
+    ensures others { (other : ℕ) → other ≢ known.symbol → F.at floor.new other ≡ F.at floor.old other }
+    ensures waited { Waited (F.at floor.old known.symbol) (F.at floor.new known.symbol) }
+    ensures unasked { HasNoNews known.asked known.from (F.at floor.old known.symbol)
+        → F.at floor.new known.symbol ≡ F.at floor.old known.symbol }
+    ensures turns { OnOk result (known.asked ≡ true → known.from < length (F.at floor.old known.symbol).reports
+        → TurnsRose (F.at floor.old known.symbol).turns (F.at floor.new known.symbol).turns) }
     ensures messages { OnOk result (messages.new.items ≡ messages.old.items
-        ++ messages_at config.now member (name_at config.now.symbols symbol) from (F.at floor.new symbol).reports) }
-    ensures front { IfOk result (λ front. front ≡ length (F.at floor.new symbol).reports) }
+        ++ messages_at config.now member (name_at config.now.symbols known.symbol) known.from
+        (where_asked known.asked (F.at floor.new known.symbol).reports)) }
+    ensures front { IfOk result (λ front. front ≡ length (F.at floor.new known.symbol).reports) }
 {
-    if from < known {
-        look(alloc, floor, config, member, symbol, from, messages)
+    if known.asked && known.from < known.front {
+        look(alloc, floor, config, member, known.symbol, known.from, messages)
     } else {
-        Ok(known)
+        Ok(known.front)
     }
 }
 
-/// As `look_all`, where it is known how many reports each symbol has: only symbols with reports past the cursor are asked for.
+/// As `look_all`, where it is known how many reports each symbol has: only symbols that are asked, and have reports past the
+/// cursor, are looked at.
 pub fn look_past<F: Floor>(
     alloc: Global,
     floor: &mut F,
     config: &Config,
     member: u32,
     cursors: &[u32],
-    known: &[u32],
+    awaited: Awaited<'_>,
     messages: &mut Vec<Message>,
     fronts: &mut Vec<u32>,
 ) -> Result<(), NoMemory>
     requires config { IsConfig config.now }
     requires setup { IsSetUpFor config.now (F.mark floor.old).setup }
     requires member { member < length config.now.members }
-    requires known { AreFronts (length config.now.symbols) (λ symbol. (F.at floor.old symbol).reports) known.now }
+    requires awaited { AreFronts (length config.now.symbols) (λ symbol. (F.at floor.old symbol).reports) awaited.fronts.now }
     requires messages { messages.old.items ≡ [] }
     requires fronts { fronts.old.items ≡ [] }
     ensures mark { F.mark floor.new ≡ F.mark floor.old }
     ensures waited { (symbol : ℕ) → Waited (F.at floor.old symbol) (F.at floor.new symbol) }
     ensures others { (symbol : ℕ) → length config.now.symbols ≤ symbol → F.at floor.new symbol ≡ F.at floor.old symbol }
-    ensures unasked { (symbol : ℕ) → length (F.at floor.old symbol).reports ≤ cursor_at cursors.now symbol
+    ensures unasked { (symbol : ℕ)
+        → HasNoNews (asked_at awaited.entry.asked.now symbol) (cursor_at cursors.now symbol) (F.at floor.old symbol)
         → F.at floor.new symbol ≡ F.at floor.old symbol }
     ensures turns { OnOk result ((symbol : ℕ) → symbol < length config.now.symbols
+        → asked_at awaited.entry.asked.now symbol ≡ true
         → cursor_at cursors.now symbol < length (F.at floor.old symbol).reports
         → TurnsRose (F.at floor.old symbol).turns (F.at floor.new symbol).turns) }
-    ensures messages { OnOk result (messages.new.items
-        ≡ messages_past config.now member cursors.now (λ symbol. (F.at floor.new symbol).reports)) }
+    ensures messages { OnOk result (messages.new.items ≡ messages_past config.now member cursors.now
+        (asked_reports awaited.entry.asked.now (λ symbol. (F.at floor.new symbol).reports))) }
     ensures fronts { OnOk result (MovedOn (length config.now.symbols) (λ symbol. (F.at floor.new symbol).reports)
         cursors.now fronts.new.items) }
 {
     let count = config.symbols.len();
     for symbol in 0..count {
         let from = cursor_at(cursors, symbol);
-        let there = known[symbol];
-        let front = look_where_past(
-            alloc,
-            floor,
-            config,
-            member,
-            symbol as u32,
+        let asked = is_asked(awaited.asked, symbol);
+        let known = KnownSymbol {
+            symbol: symbol as u32,
             from,
-            there,
-            messages,
-        )?;
+            front: awaited.fronts[symbol],
+            asked,
+        };
+        let front = look_where_past(alloc, floor, config, member, known, messages)?;
         let moved = from.max(front);
         fronts.push(moved)?;
     }

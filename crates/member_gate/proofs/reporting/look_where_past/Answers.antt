@@ -1,12 +1,18 @@
--- Where all reports were gone through, nothing is added.
-use Rattle.std.proofs.Common.{List, ◌++◌, sym, ◌∙◌, ap, append-nil, arith}
+-- Where a symbol has no news, nothing is added.
+use Rattle.std.proofs.Common.{◌≡◌, ◌≤◌, true, false, List, ◌++◌, length, sym, ◌∙◌, ap, append-nil, arith}
 use Rattle.session_core.specs.declared.message.Message.{Message}
 use Rattle.member_gate.specs.Answering.{name_at}
-use Rattle.member_gate.specs.QuietLaws.{none_behind}
+use Rattle.member_gate.proofs.Looking.{no_messages}
+use Rattle.member_gate.proofs.reporting.look_where_past.Goals.{else-known-via-then-known+else-known-2, else-known-via-else-known}
 use Rattle.member_gate.proofs.reporting.look_where_past.Goals as goal
 
-pub returns-else-from-known-clause-messages : goal.returns-else-from-known-clause-messages
-returns-else-from-known-clause-messages g c =
-    let none = none_behind c.args.config.now c.args.member (name_at c.args.config.now.symbols c.args.symbol) c.args.from
-    (g.F.Floor.at c.args.floor.now c.args.symbol).reports (omega arith) in
+pub returns-else-known-clause-messages : goal.returns-else-known-clause-messages
+returns-else-known-clause-messages g c =
+    let read : c.args.known.asked ≡ true → length (g.F.Floor.at c.args.floor.now c.args.known.symbol).reports ≤ c.args.known.from =
+    elim c.else-known.branch [
+      | else-known-via-then-known+else-known-2 w ↦ λ on. omega (arith, w.if-known-2.false, c.requires.front)
+      | else-known-via-else-known w ↦ λ on. absurd (let contrary : true ≡ false = sym on ∙ w.if-known.false in cc)
+    ] in
+    let none = no_messages c.args.config.now c.args.member (name_at c.args.config.now.symbols c.args.known.symbol) c.args.known.from
+    (g.F.Floor.at c.args.floor.now c.args.known.symbol).reports c.args.known.asked read in
     sym (ap (λ (more : List Message). c.args.messages.now.items ++ more) none ∙ append-nil c.args.messages.now.items)

@@ -3,14 +3,14 @@ use Rattle.std.proofs.Common.{◌≡◌, ◌∙◌, ℕ, List, sym, ap, subst, r
 use Rattle.session_core.specs.Machine.{IsUp}
 use Rattle.session_core.specs.Runs.{send_if_up}
 use Rattle.member_gate.specs.Desks.{DeskView}
-use Rattle.member_gate.specs.Reporting.{cursor_at, messages_past, MovedOn}
+use Rattle.member_gate.specs.Reporting.{cursor_at, asked_reports, messages_past, MovedOn}
 use Rattle.member_gate.proofs.Pulling.{sent_replies, sent_machine}
 use Rattle.member_gate.proofs.desk.Desk.pull_news.Goals as goal
 
 pub returns-clause-frames : goal.returns-clause-frames
 returns-clause-frames g c =
     let config = c.args.config.now in
-    let reports = λ (symbol : ℕ). (g.F.Floor.at c.look_past.new.floor symbol).reports in
+    let reports = asked_reports c.args.awaited.asked.now (λ symbol. (g.F.Floor.at c.look_past.new.floor symbol).reports) in
     let inside = c.self.inside in
     let moment : to_z w64 (of_z w64 c.args.moment) ≡ c.args.moment = search rules in
     let messages = c.deref-2.ensures.value ∙ c.in_ok-look_past.ensures.messages ∙ ap (λ (cursors : List ℕ). messages_past config inside.member cursors reports) c.deref.ensures.value in
@@ -20,7 +20,7 @@ returns-clause-frames g c =
 pub returns-clause-session : goal.returns-clause-session
 returns-clause-session g c =
     let config = c.args.config.now in
-    let reports = λ (symbol : ℕ). (g.F.Floor.at c.look_past.new.floor symbol).reports in
+    let reports = asked_reports c.args.awaited.asked.now (λ symbol. (g.F.Floor.at c.look_past.new.floor symbol).reports) in
     let inside = c.self.inside in
     let moment : to_z w64 (of_z w64 c.args.moment) ≡ c.args.moment = search rules in
     let messages = c.deref-2.ensures.value ∙ c.in_ok-look_past.ensures.messages ∙ ap (λ (cursors : List ℕ). messages_past config inside.member cursors reports) c.deref.ensures.value in
@@ -36,9 +36,9 @@ returns-clause-cursors g c = λ up.
     (subst (λ (v : _). MovedOn count reports c.deref.result.now v.items) (sym c.swap.ensures.y_after) c.in_ok-look_past.ensures.fronts))
 
 pub returns-clause-turns : goal.returns-clause-turns
-returns-clause-turns g c = λ up symbol h past.
+returns-clause-turns g c = λ up symbol h on past.
     let before = length (g.F.Floor.at c.args.floor.now symbol).reports in
-    c.in_ok-look_past.ensures.turns symbol h
+    c.in_ok-look_past.ensures.turns symbol h on
     (subst (λ (cursors : List ℕ). cursor_at cursors symbol < before) (sym c.deref.ensures.value)
     (subst (λ (d : DeskView). cursor_at d.cursors symbol < before) (sym c.self.view_is) past))
 
