@@ -1,5 +1,5 @@
 -- What is kept stands for the state behind each kind of line.
-use Rattle.std.proofs.Common.{◌≡◌, ℕ, ℤ, ◌<◌, List, [], ◌∷◌, ◌++◌, length, map, slice_set, slice_get, get_or, Some, Ok, Err, OnOk, IfErr, Result, refl, sym, ◌∙◌, ap, subst, arith, Option, zero, suc}
+use Rattle.std.proofs.Common.{◌≡◌, ℕ, ℤ, ◌<◌, Bool, List, [], ◌∷◌, ◌++◌, length, map, slice_set, slice_get, get_or, Some, Ok, Err, OnOk, IfErr, Result, refl, sym, ◌∙◌, ap, subst, arith, Option, zero, suc}
 use Rattle.std.specs.List.{AllZip}
 use Rattle.venue_words.specs.declared.command.Event.{Event}
 use Rattle.venue_words.specs.declared.config.Config.{Config}
@@ -8,6 +8,7 @@ use Rattle.venue_words.specs.Floors.{FloorMark, SymbolView}
 use Rattle.member_gate.specs.declared.refusal.DeskRefusal.{DeskRefusal}
 use Rattle.member_gate.specs.Answering.{name_at}
 use Rattle.member_gate.specs.Desks.{DeskView}
+use Rattle.member_gate.specs.Reporting.{asked_reports}
 use Rattle.member_gate.specs.Submitting.{TookAll}
 use Rattle.line_work.specs.FeedState.{FeedState, Connection, connection_at}
 use Rattle.line_work.specs.LineWork.{ticked, work_of_moment, work_of_bytes, work_of_piece, fed, piece_lines}
@@ -105,14 +106,14 @@ found_at [] number desk l at = absurd (omega arith)
 found_at (d ∷ ds) zero desk l at = ap Some (sym at)
 found_at (d ∷ ds) (suc number) desk l at = found_at ds number desk (omega arith) at
 
-pub pulled_one : (worker : WorkerView) (config : Config) (moment now : ℤ) (reports : ℕ → List Report) (ds : List DeskView) (number : ℕ) (desk next : DeskView) (old new : List ℕ)
+pub pulled_one : (worker : WorkerView) (config : Config) (moment now : ℤ) (asked : List Bool) (reports : ℕ → List Report) (ds : List DeskView) (number : ℕ) (desk next : DeskView) (old new : List ℕ)
     → worker ≡ worker_of config moment ds → now ≡ moment → number < length ds → desk ≡ get_or ds number desk → desk.member ≡ number
-    → IsPulled config now reports desk next
-    → new ≡ old ++ frame_lines (name_at config.members number) (reports_sent config now reports desk).turn.replies
-    → PulledOne worker.config worker.moment reports number worker.desks (slice_set ds number next) old new
-pulled_one worker config moment now reports ds number desk next old new w e l at own pulled text =
-    subst (λ (x : WorkerView). PulledOne x.config x.moment reports number x.desks (slice_set ds number next) old new) (sym w)
-    (subst (λ (m : ℤ). PulledOne config m reports number ds (slice_set ds number next) old new) e (record {
+    → IsPulled config now asked reports desk next
+    → new ≡ old ++ frame_lines (name_at config.members number) (reports_sent config now (asked_reports asked reports) desk).turn.replies
+    → PulledOne worker.config worker.moment asked reports number worker.desks (slice_set ds number next) old new
+pulled_one worker config moment now asked reports ds number desk next old new w e l at own pulled text =
+    subst (λ (x : WorkerView). PulledOne x.config x.moment asked reports number x.desks (slice_set ds number next) old new) (sym w)
+    (subst (λ (m : ℤ). PulledOne config m asked reports number ds (slice_set ds number next) old new) e (record {
       desk = desk;
       next = next;
       found = found_at ds number desk l at;

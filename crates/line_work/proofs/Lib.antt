@@ -2,6 +2,5 @@ pub mod DeskWork
 pub mod Fresh
 pub mod Kept
 pub mod LineReads
-pub mod Quiet
 pub mod Stops
 pub mod Submitted

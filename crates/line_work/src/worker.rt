@@ -1,8 +1,10 @@
 //! The lines of a feed, worked one after the other.
-ghost use Rattle.std.specs.Prelude.{ℕ, List, map, ◌≡◌, ◌<◌, ◌++◌, ◌∷◌, [], IfOk, OnOk, IfErr, length};
-ghost use Rattle.std.specs.Prelude.{IsOkAnd};
+ghost use Rattle.std.specs.Prelude.{ℕ, List, map, ◌≡◌, ◌↔◌, ◌<◌, ◌++◌, ◌∷◌, [], IfOk, OnOk, IfErr, length};
+ghost use Rattle.std.specs.Prelude.{IsOkAnd, IsTrue, Some, slice_get};
 ghost use Rattle.venue_words.specs.Conditions.{IsConfig, fits_limits};
 ghost use Rattle.venue_words.specs.Floors.{IsSetUpFor, is_configured, setup_of};
+ghost use Rattle.session_core.specs.Machine.{IsUp};
+ghost use Rattle.member_gate.specs.Desks.{DeskView};
 ghost use Rattle.member_gate.specs.Reporting.{AreFronts};
 ghost use Rattle.member_gate.specs.Submitting.{TookAll, Waited};
 ghost use Rattle.script_text.specs.Body.{IsLineOf};
@@ -19,7 +21,7 @@ use crate::quoting::submit;
 use crate::source::Source;
 use crate::taking::take_piece;
 use crate::ticking::tick_all;
-use member_gate::{Desk, DeskRefusal, desks_of};
+use member_gate::{Awaited, Desk, DeskRefusal, desks_of};
 use script_text::{Line, LineFault, read_line};
 use std::alloc::Global;
 use std::marker::Model;
@@ -72,6 +74,16 @@ impl LineWorker {
         ensures desks { AreDesks self.now.config self.now.desks }
     {
         &self.config
+    }
+
+    /// Whether a member's session is up.
+    pub fn is_up(&self, member: u32) -> bool
+        ensures { (desk : DeskView) → slice_get self.now.desks member ≡ Some desk → (IsTrue result ↔ IsUp desk.session) }
+    {
+        match self.desks.get(member as usize) {
+            Some(desk) => desk.is_up(),
+            None => false,
+        }
     }
 
     /// The clock says a moment.
@@ -219,21 +231,21 @@ impl LineWorker {
         }
     }
 
-    /// Sends a member his reports past the cursors, at the moment of the last line, where his session is up: they are appended,
-    /// one frame in a line. `fronts` tells how many reports each symbol has. After a refusal the member may have been sent what
-    /// is not appended.
+    /// Sends a member his reports past the cursors, of the symbols that are asked, at the moment of the last line, where his
+    /// session is up: they are appended, one frame in a line, and all cursors go on. After a refusal the member may have been sent
+    /// what is not appended.
     pub fn pull_news<F: Floor>(
         &mut self,
         floor: &mut F,
         member: u32,
-        fronts: &[u32],
+        awaited: Awaited<'_>,
         out: &mut Vec<u8>,
     ) -> Result<(), NoMemory>
         requires setup { IsSetUpFor self.old.config (F.mark floor.old).setup }
         requires member { member < length self.old.config.members }
-        requires fronts { AreFronts (length self.old.config.symbols) (λ symbol. (F.at floor.old symbol).reports) fronts.now }
-        ensures pulled { OnOk result (PulledOne self.old.config self.old.moment (λ symbol. (F.at floor.new symbol).reports)
-            member self.old.desks self.new.desks out.old.items out.new.items) }
+        requires awaited { AreFronts (length self.old.config.symbols) (λ symbol. (F.at floor.old symbol).reports) awaited.fronts.now }
+        ensures pulled { OnOk result (PulledOne self.old.config self.old.moment awaited.entry.asked.now
+            (λ symbol. (F.at floor.new symbol).reports) member self.old.desks self.new.desks out.old.items out.new.items) }
 
         // What stays.
         ensures mark { F.mark floor.new ≡ F.mark floor.old }
@@ -248,6 +260,6 @@ impl LineWorker {
             moment: self.moment,
         };
         let desk = &mut self.desks[member as usize];
-        pull_desk(source, floor, desk, fronts, out)
+        pull_desk(source, floor, desk, awaited, out)
     }
 }

@@ -36,6 +36,6 @@ returns-clause-pulled g c =
     let e : to_z w64 (of_z w64 c.self.inside.moment) ≡ c.self.inside.moment = search rules in
     let own = number_at (λ (d : DeskView). d.member) _ c.self.inside.desks.items c.args.member _ c.self.invariant.1 l c.index_mut-desk.ensures.value in
     both_ok c.pull_desk.result _ _ _ (λ pulled text. pulled_one c.args.self.now c.self.inside.config c.self.inside.moment _
-    (λ symbol. (g.F.Floor.at c.pull_desk.new.floor symbol).reports) c.self.inside.desks.items c.args.member _ c.pull_desk.new.desk
+    c.args.awaited.asked.now (λ symbol. (g.F.Floor.at c.pull_desk.new.floor symbol).reports) c.self.inside.desks.items c.args.member _ c.pull_desk.new.desk
     c.args.out.now.items c.pull_desk.new.out.items (sym c.self.view_is) e l c.index_mut-desk.ensures.value own pulled text)
     c.pull_desk.ensures.desk c.pull_desk.ensures.text
