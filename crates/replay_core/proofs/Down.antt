@@ -1,5 +1,5 @@
--- At a line only the session of its own member comes up.
-use Rattle.std.proofs.Common.{◌≡◌, ℕ, zero, suc, ◌+◌, ℤ, Bool, true, false, cond, List, [], ◌∷◌, map, slice_get, slice_set, unwrap_or, Option, Some, None, refl, ap, arith}
+-- At a line only the session of its own member comes up, and only if it was not up.
+use Rattle.std.proofs.Common.{◌≡◌, ℕ, zero, suc, ◌+◌, ℤ, Bool, true, false, cond, List, [], ◌∷◌, map, slice_get, slice_set, unwrap_or, Option, Some, None, refl, sym, ◌∙◌, ap, subst, arith}
 use Rattle.std.specs.List.{AllZip, range_with_len}
 use Rattle.session_core.specs.Machine.{Machine, Outcome, IsUp, rests, ticks, on_clock}
 use Rattle.session_core.specs.State.{is_up}
@@ -67,29 +67,52 @@ numbers_same (d ∷ ds) (c ∷ cs) h =
     let rest = numbers_same ds cs h.1 in
     cc
 
+-- the desk of a connection
+found_desk : (ds : List DeskView) (cs : List Connection) (number : ℕ) (c : Connection) → AllZip IsDeskOf ds cs → slice_get cs number ≡ Some c
+    → (d : DeskView) × (slice_get ds number ≡ Some d) × IsDeskOf d c
+found_desk [] [] number c h e = absurd (cc)
+found_desk [] (c0 ∷ cs) number c h e = absurd h
+found_desk (d ∷ ds) [] number c h e = absurd h
+found_desk (d ∷ ds) (c0 ∷ cs) zero c h e = let here : c0 ≡ c = cc in (d, refl, subst (λ (x : Connection). IsDeskOf d x) here h.0)
+found_desk (d ∷ ds) (c0 ∷ cs) (suc number) c h e = found_desk ds cs number c h.1 e
+
 -- ---- a line
 
-piece_kept : (state : FeedState) (number n : ℕ) (bytes : List ℕ)
+-- this is the line's own member, or none where his session is up
+pub record IsOwn (desks : List DeskView) (line : Line) (own : Option ℕ) : Type 0 where
+  pub some : (member : ℕ) → own ≡ Some member → own_of line ≡ Some member
+  pub none : (member : ℕ) (desk : DeskView) → own ≡ None → own_of line ≡ Some member → slice_get desks member ≡ Some desk → IsUp desk.session
+
+piece_kept : (state : FeedState) (desks : List DeskView) (number n : ℕ) (bytes : List ℕ) (own : Option ℕ)
     → map (λ (c : Connection). c.number) state.connections ≡ range_with_len 0 n
+    → AllZip IsDeskOf desks state.connections → IsOwn desks (Piece number bytes) own
     → (c : Connection) → slice_get state.connections number ≡ Some c
-    → KeepsDown (Some number) c (fed state.config state.moment c bytes)
-piece_kept state number n bytes h c e = record {
+    → KeepsDown own c (fed state.config state.moment c bytes)
+piece_kept state desks number n bytes None h zip is c e = record {
+  number = refl;
+  down = λ other up.
+      let x = found_desk desks state.connections number c zip e in
+      subst (λ (s : Machine). IsUp s) x.2.session (is.none number x.0 refl refl x.1);
+}
+piece_kept state desks number n bytes (Some member) h zip is c e = record {
   number = refl;
   down = λ other up. absurd (other (
-      let own = number_from state.connections 0 n number c h e in
+      let place = number_from state.connections 0 n number c h e in
+      let mine = is.some member refl in
       let same : number ≡ c.number = omega arith in
-      ap Some same));
+      sym mine ∙ ap Some same));
 }
 
-pub line_kept : (state : FeedState) (line : Line) (n : ℕ)
+pub line_kept : (state : FeedState) (desks : List DeskView) (line : Line) (own : Option ℕ) (n : ℕ)
     → map (λ (c : Connection). c.number) state.connections ≡ range_with_len 0 n
-    → AllZip (KeepsDown (own_of line)) state.connections (work_of_line state line).state.connections
-line_kept state (Moment moment) n h =
-    zip_each None (ticked moment) state.connections (λ c. record { number = refl; down = λ other up. clock_down c.session moment up })
-line_kept state (Quote symbol command) n h = zip_same None state.connections
-line_kept state (Piece number bytes) n h =
-    zip_put (Some number) (λ c. fed state.config state.moment c bytes) state.connections number (new_connection state.config number)
-    (piece_kept state number n bytes h)
-line_kept state (Open number) n h =
-    zip_put None reconnected state.connections number (new_connection state.config number)
+    → AllZip IsDeskOf desks state.connections → IsOwn desks line own
+    → AllZip (KeepsDown own) state.connections (work_of_line state line).state.connections
+line_kept state desks (Moment moment) own n h zip is =
+    zip_each own (ticked moment) state.connections (λ c. record { number = refl; down = λ other up. clock_down c.session moment up })
+line_kept state desks (Quote symbol command) own n h zip is = zip_same own state.connections
+line_kept state desks (Piece number bytes) own n h zip is =
+    zip_put own (λ c. fed state.config state.moment c bytes) state.connections number (new_connection state.config number)
+    (piece_kept state desks number n bytes own h zip is)
+line_kept state desks (Open number) own n h zip is =
+    zip_put own reconnected state.connections number (new_connection state.config number)
     (λ c e. record { number = refl; down = λ other up. absurd (cc) })

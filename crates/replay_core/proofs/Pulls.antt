@@ -14,13 +14,13 @@ use Rattle.session_core.specs.State.{is_up}
 use Rattle.session_core.specs.declared.message.Message.{Message}
 use Rattle.member_gate.specs.Answering.{name_at, message_of}
 use Rattle.member_gate.specs.Desks.{DeskView}
-use Rattle.member_gate.specs.Reporting.{cursor_at, messages_at, messages_from, messages_past, MovedOn}
+use Rattle.member_gate.specs.Reporting.{cursor_at, asked_at, where_asked, asked_reports, messages_at, messages_from, messages_past, MovedOn}
 use Rattle.member_gate.specs.Working.{AreUnread}
 use Rattle.line_work.specs.Output.{frame_lines}
 use Rattle.line_work.specs.OverLaws.{send_over}
 use Rattle.line_work.specs.Pulling.{IsPulled, reports_sent}
 use Rattle.line_work.specs.Standing.{IsDeskOf}
-use Rattle.replay_core.specs.News.{NoneWaits}
+use Rattle.replay_core.specs.News.{NoneWaits, NoneElsewhere}
 use Rattle.replay_core.specs.Playing.{Member, reports_at}
 use Rattle.replay_core.specs.Pulling.{sent_to, pulled, pull_lines, moved_cursors}
 use Rattle.replay_core.specs.Stages.{AreCursors, AreSent, IsDeskOfMember, IsSamePast}
@@ -67,22 +67,44 @@ no_messages config member c r n number (symbol ∷ symbols) l h =
 abbrev pub Shown : Config → List (List Event) → (ℕ → List Report) → Type 0
 Shown config journals reports = (symbol : ℕ) → symbol < length config.symbols → reports symbol ≡ reports_at config journals symbol
 
-messages_alike : (config : Config) (desk : DeskView) (member : Member) (journals : List (List Event)) (reports : ℕ → List Report)
+pub none_past : (member from : ℕ) (reports : List Report) → length reports ≤ from → reports_of member from reports ≡ []
+none_past member from reports l = rw (drop_of_length-le reports l) refl
+
+-- what is read of a symbol, where nothing waits at one that is not asked
+read_where : (member a b : ℕ) (shown there : List Report) (is : Bool) → shown ≡ there → reports_of member a there ≡ reports_of member b there
+    → (is ≡ false → reports_of member b there ≡ []) → reports_of member a (where_asked is shown) ≡ reports_of member b there
+read_where member a b shown there true e same none = ap (reports_of member a) e ∙ same
+read_where member a b shown there false e same none = none_past member a [] (omega arith) ∙ sym (none refl)
+
+messages_alike : (config : Config) (desk : DeskView) (member : Member) (journals : List (List Event)) (row : List Bool) (reports : ℕ → List Report)
     → IsDeskOfMember config journals desk member → Shown config journals reports
-    → messages_past config desk.member desk.cursors reports
+    → NoneElsewhere config journals row desk.member member.cursors
+    → messages_past config desk.member desk.cursors (asked_reports row reports)
     ≡ messages_past config member.connection.number member.cursors (reports_at config journals)
-messages_alike config desk member journals reports x same =
-    messages_same config desk.member member.connection.number desk.cursors member.cursors reports (reports_at config journals)
+messages_alike config desk member journals row reports x same none =
+    messages_same config desk.member member.connection.number desk.cursors member.cursors (asked_reports row reports) (reports_at config journals)
     (length config.symbols) 0 config.symbols x.connection.number (omega arith)
-    (λ k l. ap (reports_of desk.member (cursor_at desk.cursors k)) (same k l) ∙ (x.cursors k l).same)
+    (λ k l. read_where desk.member (cursor_at desk.cursors k) (cursor_at member.cursors k) (reports k) (reports_at config journals k)
+    (asked_at row k) (same k l) (x.cursors k l).same (none k l))
+
+sends_down : (session : Machine) (messages : List Message) (moment : ℤ) → is_up session.state ≡ false
+    → send_if_up session messages moment ≡ rests session
+sends_down session messages moment e = rw e refl
+
+sends_alike : (session : Machine) (a b : List Message) (moment : ℤ) (up : Bool) → is_up session.state ≡ up → (up ≡ true → a ≡ b)
+    → send_if_up session a moment ≡ send_if_up session b moment
+sends_alike session a b moment true e same = ap (λ (m : List Message). send_if_up session m moment) (same refl)
+sends_alike session a b moment false e same = sends_down session a moment e ∙ sym (sends_down session b moment e)
 
 -- what a desk's session sends is what its member's does
-sends_same : (config : Config) (moment : ℤ) (desk : DeskView) (member : Member) (journals : List (List Event)) (reports : ℕ → List Report)
+sends_same : (config : Config) (moment : ℤ) (desk : DeskView) (member : Member) (journals : List (List Event)) (row : List Bool) (reports : ℕ → List Report)
     → IsDeskOfMember config journals desk member → Shown config journals reports
-    → reports_sent config moment reports desk ≡ sent_to config moment journals member
-sends_same config moment desk member journals reports x same =
-    ap (λ (s : Machine). send_if_up s (messages_past config desk.member desk.cursors reports) moment) x.connection.session
-    ∙ ap (λ (m : List Message). send_if_up member.connection.session m moment) (messages_alike config desk member journals reports x same)
+    → (IsUp desk.session → NoneElsewhere config journals row desk.member member.cursors)
+    → reports_sent config moment (asked_reports row reports) desk ≡ sent_to config moment journals member
+sends_same config moment desk member journals row reports x same none =
+    ap (λ (s : Machine). send_if_up s (messages_past config desk.member desk.cursors (asked_reports row reports)) moment) x.connection.session
+    ∙ sends_alike member.connection.session _ _ moment (is_up member.connection.session.state) refl
+    (λ up. messages_alike config desk member journals row reports x same (none (ap (λ (s : Machine). is_up s.state) x.connection.session ∙ up)))
 
 over_sent : (session : Machine) (messages : List Message) (moment : ℤ) → IsOver session
     → IsOver (send_if_up session messages moment).machine
@@ -90,9 +112,6 @@ over_sent session messages moment over =
     subst (λ (o : Outcome). IsOver o.machine) (sym (send_over session messages moment over)) over
 
 -- ---- cursors
-
-none_past : (member from : ℕ) (reports : List Report) → length reports ≤ from → reports_of member from reports ≡ []
-none_past member from reports l = rw (drop_of_length-le reports l) refl
 
 -- the cursor of the definition that went on stands at the end of the symbol's reports
 moved_to_end : (config : Config) (journals : List (List Event)) (cursors : List ℕ) (k : ℕ) → k < length config.symbols
@@ -132,13 +151,14 @@ cursors_pulled config journals number before after member reports false moved do
 
 -- ---- a desk that is pulled
 
-pub desk_pulled : (config : Config) (moment : ℤ) (journals : List (List Event)) (desk next : DeskView) (member : Member) (reports : ℕ → List Report)
-    → Shown config journals reports → IsPulled config moment reports desk next → IsDeskOfMember config journals desk member
+pub desk_pulled : (config : Config) (moment : ℤ) (journals : List (List Event)) (desk next : DeskView) (member : Member) (row : List Bool) (reports : ℕ → List Report)
+    → Shown config journals reports → IsPulled config moment row reports desk next → IsDeskOfMember config journals desk member
+    → (IsUp desk.session → NoneElsewhere config journals row desk.member member.cursors)
     → IsDeskOfMember config journals next (pulled config moment journals member)
-desk_pulled config moment journals desk next member reports same p x = record {
+desk_pulled config moment journals desk next member row reports same p x none = record {
   connection = record {
     number = p.member ∙ x.connection.number;
-    session = p.session ∙ ap (λ (o : Outcome). o.machine) (sends_same config moment desk member journals reports x same);
+    session = p.session ∙ ap (λ (o : Outcome). o.machine) (sends_same config moment desk member journals row reports x same none);
     stream = elim x.connection.stream [
       | inl over ↦ inl (over_sent member.connection.session (messages_past config member.connection.number member.cursors (reports_at config journals)) moment over)
       | inr read ↦ inr (subst (λ (u : List ℕ). AreUnread member.connection.stream u) (sym p.unread) read)
@@ -152,15 +172,16 @@ desk_pulled config moment journals desk next member reports same p x = record {
       x.cursors same);
 }
 
-pub line_pulled : (config : Config) (moment : ℤ) (journals : List (List Event)) (reports : ℕ → List Report) (number : ℕ) (desk : DeskView) (old new : List ℕ) (member : Member)
+pub line_pulled : (config : Config) (moment : ℤ) (journals : List (List Event)) (row : List Bool) (reports : ℕ → List Report) (number : ℕ) (desk : DeskView) (old new : List ℕ) (member : Member)
     → Shown config journals reports → desk.member ≡ number
-    → new ≡ old ++ frame_lines (name_at config.members number) (reports_sent config moment reports desk).turn.replies
-    → IsDeskOfMember config journals desk member → new ≡ old ++ pull_lines config moment journals member
-line_pulled config moment journals reports number desk old new member same own text x =
+    → new ≡ old ++ frame_lines (name_at config.members number) (reports_sent config moment (asked_reports row reports) desk).turn.replies
+    → IsDeskOfMember config journals desk member → (IsUp desk.session → NoneElsewhere config journals row desk.member member.cursors)
+    → new ≡ old ++ pull_lines config moment journals member
+line_pulled config moment journals row reports number desk old new member same own text x none =
     text
-    ∙ ap (λ (k : ℕ). old ++ frame_lines (name_at config.members k) (reports_sent config moment reports desk).turn.replies) (sym own ∙ x.connection.number)
+    ∙ ap (λ (k : ℕ). old ++ frame_lines (name_at config.members k) (reports_sent config moment (asked_reports row reports) desk).turn.replies) (sym own ∙ x.connection.number)
     ∙ ap (λ (o : Outcome). old ++ frame_lines (name_at config.members member.connection.number) o.turn.replies)
-    (sends_same config moment desk member journals reports x same)
+    (sends_same config moment desk member journals row reports x same none)
 
 -- ---- a desk for whose member nothing waits
 
@@ -217,7 +238,7 @@ line_passed config moment journals desk member x none =
 -- ---- behind all that goes out
 
 -- a member whose session is up was sent all
-sent_behind : (config : Config) (moment : ℤ) (journals : List (List Event)) (desk : DeskView) (member : Member)
+pub sent_behind : (config : Config) (moment : ℤ) (journals : List (List Event)) (desk : DeskView) (member : Member)
     → IsDeskOfMember config journals desk (pulled config moment journals member)
     → AreSent config journals desk (pulled config moment journals member).cursors
 sent_behind config moment journals desk member x = record {

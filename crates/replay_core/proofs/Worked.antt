@@ -23,7 +23,7 @@ use Rattle.line_work.specs.LineWorkLaws.{text_keeps_config}
 use Rattle.line_work.specs.Refusing.{TookPart, IsRefused, refusal_at, fault_at}
 use Rattle.line_work.specs.Standing.{AreDesks, WorkerView}
 use Rattle.line_work.specs.Standing as feed
-use Rattle.replay_core.specs.News.{noted_at, KeepsDown, IsAsked}
+use Rattle.replay_core.specs.News.{row_at, asks, AreRows, KeepsDown, IsAsked}
 use Rattle.replay_core.specs.PlainFloor.{IsPlain, ShowsJournals}
 use Rattle.replay_core.specs.Playing.{Playing, members_in, members_of, reports_at}
 use Rattle.replay_core.specs.PlayLine.{Answer, play_line, answer_to, answer_to_work, recorded_by, behind_work, with_pulls}
@@ -40,27 +40,30 @@ pub set_up : {F : Type 0} (mark_of : F → FloorMark) (at : F → ℕ → Symbol
     → IsConfig config → IsPlain mark_of at limit state config mark → IsSetUpFor config mark.setup
 set_up mark_of at limit state config mark is plain = subst (λ (s : Setup). IsSetUpFor config s) (sym plain.setup) (sets_up config is)
 
--- which members were noted, by a look at the floor from these fronts: all with reports behind them, and the line's own member
-pub record Notes {F : Type 0} (at : F → ℕ → SymbolView) (config : Config) (floor : F) (fronts : List ℕ) (own : Option ℕ) (noted : List Bool) : Type 0 where
-  pub mine : (member : ℕ) → own ≡ Some member → member < length config.members → noted_at noted member ≡ true
-  pub none : (member symbol : ℕ) → member < length config.members → noted_at noted member ≡ false → symbol < length config.symbols
+-- who is asked, by a look at the floor from these fronts: all members with reports behind them at the symbols of these, and
+-- the member whose session may have come up at all
+pub record Notes {F : Type 0} (at : F → ℕ → SymbolView) (config : Config) (floor : F) (fronts : List ℕ) (own : Option ℕ) (asked : List (List Bool)) : Type 0 where
+  pub mine : (member symbol : ℕ) → own ≡ Some member → member < length config.members → symbol < length config.symbols
+      → asks asked member symbol ≡ true
+  pub none : (member symbol : ℕ) → member < length config.members → symbol < length config.symbols → asks asked member symbol ≡ false
       → reports_of member (slice_index fronts symbol) (at floor symbol).reports ≡ []
 
-pub noted_so : {F : Type 0} (at : F → ℕ → SymbolView) (config : Config) (floor : F) (fronts : List ℕ) (own : Option ℕ) (before noted : List Bool)
-    → length fronts ≡ length config.symbols → length before ≡ length config.members
-    → ((member : ℕ) → own ≡ Some member → member < length before → noted_at noted member ≡ true)
-    → ((member symbol : ℕ) → member < length before → noted_at noted member ≡ false → symbol < length fronts
+pub noted_so : {F : Type 0} (at : F → ℕ → SymbolView) (config : Config) (floor : F) (fronts : List ℕ) (own : Option ℕ) (before asked : List (List Bool))
+    → length fronts ≡ length config.symbols → AreRows (length config.members) (length config.symbols) before
+    → ((member symbol : ℕ) → own ≡ Some member → symbol < length (row_at before member) → asks asked member symbol ≡ true)
+    → ((member symbol : ℕ) → symbol < length (row_at before member) → symbol < length fronts → asks asked member symbol ≡ false
     → reports_of member (slice_index fronts symbol) (at floor symbol).reports ≡ [])
-    → Notes at config floor fronts own noted
-noted_so at config floor fronts own before noted symbols members mine none = record {
-  mine = λ member e l. mine member e (omega (arith, members, l));
-  none = λ member symbol l off within. none member symbol (omega (arith, members, l)) off (omega (arith, symbols, within));
+    → Notes at config floor fronts own asked
+noted_so at config floor fronts own before asked symbols rows mine none = record {
+  mine = λ member symbol e l within. mine member symbol e (let row = rows member l in omega (arith, row, within));
+  none = λ member symbol l within off.
+      none member symbol (let row = rows member l in omega (arith, row, within)) (omega (arith, symbols, within)) off;
 }
 
 -- what is kept behind a line's own work, before anything else goes out
-pub record Behind {F : Type 0} (at : F → ℕ → SymbolView) (worker : WorkerView) (floor : F) (noted : List Bool) (playing : Playing) : Type 0 where
+pub record Behind {F : Type 0} (at : F → ℕ → SymbolView) (worker : WorkerView) (floor : F) (rows : List (List Bool)) (playing : Playing) : Type 0 where
   pub feed : feed.StandsFor worker playing.feed
-  pub asked : AllZip (IsAsked noted worker.config playing.journals) worker.desks (members_of playing)
+  pub asked : AllZip (IsAsked rows worker.config playing.journals) worker.desks (members_of playing)
   pub shows : ShowsJournals at worker.config floor playing.journals
   pub each : length playing.journals ≡ length playing.feed.config.symbols
 
@@ -110,12 +113,12 @@ module _ {F : Type 0} (mark_of : F → FloorMark) (at : F → ℕ → SymbolView
 
   -- what a look from the fronts found in the floor is so of the journals
   looked : (worker : WorkerView) (floor : F) (fronts : List ℕ) (fault : Option LineFault) (playing : Playing) (moment : ℤ) (subs : List Submission)
-      (steps : ℕ) (after : F × ℕ) (journals : List (List Event)) (own : Option ℕ) (noted : List Bool)
+      (steps : ℕ) (after : F × ℕ) (journals : List (List Event)) (own : Option ℕ) (asked : List (List Bool))
       → IsPlain mark_of at limit state worker.config mark → mark_of floor ≡ mark → mark_of after.0 ≡ mark
       → StandsFor at (kept_of worker floor fronts fault) playing → TookAll at limit mark 1 moment subs (floor, steps) after
-      → ShowsJournals at worker.config after.0 journals → Notes at worker.config after.0 fronts own noted
-      → Looked worker.config playing.journals journals fronts own noted
-  looked worker floor fronts fault playing moment subs steps after journals own noted plain mine behind s took shows x =
+      → ShowsJournals at worker.config after.0 journals → Notes at worker.config after.0 fronts own asked
+      → Looked worker.config playing.journals journals fronts own asked
+  looked worker floor fronts fault playing moment subs steps after journals own asked plain mine behind s took shows x =
       let was : ShowsJournals at worker.config floor playing.journals =
       subst (λ (k : Config). ShowsJournals at k floor playing.journals) (sym s.feed.config) s.journals in
       let told : ShowsFronts at worker.config floor fronts = subst (λ (k : Config). ShowsFronts at k floor fronts) (sym s.feed.config) s.fronts in
@@ -127,30 +130,30 @@ module _ {F : Type 0} (mark_of : F → FloorMark) (at : F → ℕ → SymbolView
             (all_grow at limit mark moment subs (floor, steps) after took symbol));
         told = λ symbol l. told.read symbol l ∙ ap (length {A = Report}) (before symbol l);
         mine = x.mine;
-        none = λ member symbol l off within.
-            ap (reports_of member (slice_index fronts symbol)) (sym (now symbol within)) ∙ x.none member symbol l off within;
+        none = λ member symbol l within off.
+            ap (reports_of member (slice_index fronts symbol)) (sym (now symbol within)) ∙ x.none member symbol l within off;
       }
 
-  -- the player behind the line's own work, beside what is kept: who is to be asked is noted
-  pub behind_worked : (worker next : WorkerView) (floor : F) (steps : ℕ) (after : F × ℕ) (fronts : List ℕ) (fault : Option LineFault) (own : Option ℕ) (playing : Playing) (text old new : List ℕ) (noted : List Bool)
+  -- the player behind the line's own work, beside what is kept: who is to be asked
+  pub behind_worked : (worker next : WorkerView) (floor : F) (steps : ℕ) (after : F × ℕ) (fronts : List ℕ) (fault : Option LineFault) (own : Option ℕ) (playing : Playing) (text old new : List ℕ) (asked : List (List Bool))
       → IsPlain mark_of at limit state worker.config mark → mark_of floor ≡ mark → mark_of after.0 ≡ mark
       → StandsFor at (kept_of worker floor fronts fault) playing → AreDesks worker.config worker.desks → next.config ≡ worker.config
       → map (λ (d : DeskView). d.cursors) next.desks ≡ map (λ (d : DeskView). d.cursors) worker.desks
       → (w : Worked at limit mark playing text next old new (floor, steps) after own)
       → Took at w.work.state.config (recorded_by playing w.work) steps after
-      → Notes at worker.config after.0 fronts own noted
-      → Behind at next after.0 noted (behind_work playing w.work (recorded_by playing w.work))
-  behind_worked worker next floor steps after fronts fault own playing text old new noted plain mine behind s desks same cursors w took x =
+      → Notes at worker.config after.0 fronts own asked
+      → Behind at next after.0 asked (behind_work playing w.work (recorded_by playing w.work))
+  behind_worked worker next floor steps after fronts fault own playing text old new asked plain mine behind s desks same cursors w took x =
       let shows : ShowsJournals at worker.config after.0 (recorded_by playing w.work).journals =
       subst (λ (k : Config). ShowsJournals at k after.0 (recorded_by playing w.work).journals) (sym w.stands.config ∙ same) took.shows in
       let sent = subst (λ (k : Config). AllZip (AreSent k playing.journals) worker.desks playing.cursors) (sym s.feed.config) s.cursors in
       let all = looked worker floor fronts fault playing w.work.state.moment w.work.submissions steps after (recorded_by playing w.work).journals own
-      noted plain mine behind s w.took shows x in
+      asked plain mine behind s w.took shows x in
       record {
         feed = w.stands;
-        asked = subst (λ (k : Config). AllZip (IsAsked noted k (recorded_by playing w.work).journals) next.desks
+        asked = subst (λ (k : Config). AllZip (IsAsked asked k (recorded_by playing w.work).journals) next.desks
             (members_in w.work.state.connections playing.cursors)) (sym same)
-            (asked_all worker.config playing.journals (recorded_by playing w.work).journals fronts own noted all worker.desks next.desks
+            (asked_all worker.config playing.journals (recorded_by playing w.work).journals fronts own asked all worker.desks next.desks
             playing.feed.connections w.work.state.connections playing.cursors 0 (length worker.config.members) desks (omega arith)
             s.feed.desks w.down w.stands.desks cursors sent);
         shows = subst (λ (k : Config). ShowsJournals at k after.0 (recorded_by playing w.work).journals) (sym same) shows;
@@ -188,13 +191,13 @@ line_told n playing text old between new work e room none told grew =
 
 -- ---- what goes out
 
-pub stands_pulled : {F : Type 0} (at : F → ℕ → SymbolView) (worker next : WorkerView) (floor after : F) (fronts : List ℕ) (noted : List Bool) (fault : Option LineFault) (playing : Playing)
-    → Behind at worker floor noted playing → fault ≡ None → next.config ≡ worker.config → next.moment ≡ worker.moment
+pub stands_pulled : {F : Type 0} (at : F → ℕ → SymbolView) (worker next : WorkerView) (floor after : F) (fronts : List ℕ) (asked : List (List Bool)) (fault : Option LineFault) (playing : Playing)
+    → Behind at worker floor asked playing → fault ≡ None → next.config ≡ worker.config → next.moment ≡ worker.moment
     → AllZip (IsDeskOfMember worker.config playing.journals) next.desks
     (map (pulled worker.config worker.moment playing.journals) (members_of playing))
     → ShowsJournals at worker.config after playing.journals → ShowsFronts at worker.config after fronts
     → StandsFor at (kept_of next after fronts fault) (after_pulls playing)
-stands_pulled at worker next floor after fronts noted fault playing s clear config moment pulls shows told =
+stands_pulled at worker next floor after fronts asked fault playing s clear config moment pulls shows told =
     let desks : AllZip (IsDeskOfMember playing.feed.config playing.journals) next.desks
     (map (pulled playing.feed.config playing.feed.moment playing.journals) (members_of playing)) =
     subst (λ (m : ℤ). AllZip (IsDeskOfMember playing.feed.config playing.journals) next.desks (map (pulled playing.feed.config m playing.journals) (members_of playing)))
@@ -214,11 +217,11 @@ stands_pulled at worker next floor after fronts noted fault playing s clear conf
       fronts = subst (λ (k : Config). ShowsFronts at k after fronts) s.feed.config told;
     }
 
-pub text_pulled : {F : Type 0} (at : F → ℕ → SymbolView) (worker : WorkerView) (floor : F) (noted : List Bool) (playing : Playing) (old new : List ℕ)
-    → Behind at worker floor noted playing
+pub text_pulled : {F : Type 0} (at : F → ℕ → SymbolView) (worker : WorkerView) (floor : F) (asked : List (List Bool)) (playing : Playing) (old new : List ℕ)
+    → Behind at worker floor asked playing
     → new ≡ old ++ flat_map (pull_lines worker.config worker.moment playing.journals) (members_of playing)
     → new ≡ old ++ lines_of_pulls playing
-text_pulled at worker floor noted playing old new s pulls =
+text_pulled at worker floor asked playing old new s pulls =
     subst (λ (m : ℤ). new ≡ old ++ flat_map (pull_lines playing.feed.config m playing.journals) (members_of playing)) s.feed.moment
     (subst (λ (k : Config). new ≡ old ++ flat_map (pull_lines k worker.moment playing.journals) (members_of playing)) s.feed.config pulls)
 

@@ -1,6 +1,7 @@
 //! The whole of a replay: a script from a shelf, its transcript to a sink, and a status with its text.
 #![tactic(auto)]
 
+mod asked;
 pub mod complete;
 pub mod laws;
 pub mod lines;

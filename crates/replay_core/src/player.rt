@@ -35,6 +35,7 @@ pub struct Player<F: PlainFloor> {
 impl<F: PlainFloor> Model for Player<F> {
     ghost use Rattle.std.specs.Prelude.{◌≡◌, length};
     ghost use Rattle.venue_words.specs.Conditions.{IsConfig};
+    ghost use Rattle.replay_core.specs.News.{AreRows};
     ghost use Rattle.replay_core.specs.PlainFloor.{IsPlain};
     ghost use Rattle.replay_core.specs.Stages.{Kept, kept_of};
 
@@ -45,7 +46,7 @@ impl<F: PlainFloor> Model for Player<F> {
     ghost invariant = { λ p. IsConfig p.worker.config
         × IsPlain F.mark F.at F.step_limit F.state p.worker.config (F.mark p.floor)
         × (length p.news.fronts.items ≡ length p.worker.config.symbols)
-        × (length p.news.noted.items ≡ length p.worker.config.members) };
+        × AreRows (length p.worker.config.members) (length p.worker.config.symbols) p.news.asked.items };
 }
 
 impl<F: PlainFloor> Player<F> {

@@ -5,7 +5,7 @@ ghost use Rattle.venue_words.specs.declared.command.Event.{Event};
 ghost use Rattle.venue_words.specs.Floors.{IsSetUpFor};
 ghost use Rattle.member_gate.specs.Reporting.{AreFronts};
 ghost use Rattle.member_gate.specs.Submitting.{Waited};
-ghost use Rattle.replay_core.specs.News.{noted_at, IsAsked, PulledIf};
+ghost use Rattle.replay_core.specs.News.{row_at, IsAsked, PulledIf};
 ghost use Rattle.replay_core.specs.PlainFloor.{IsPlain, ShowsJournals};
 ghost use Rattle.replay_core.specs.Playing.{Member};
 ghost use Rattle.replay_core.specs.Pulling.{pulled, pull_lines, ShowsFronts};
@@ -14,9 +14,10 @@ ghost use Rattle.replay_core.specs.Stages.{IsDeskOfMember};
 use crate::news::News;
 use crate::plain_floor::PlainFloor;
 use line_work::LineWorker;
+use member_gate::Awaited;
 use venue_words::{Floor, NoMemory};
 
-/// Pulls a member's reports that were not sent yet, if he is noted, and appends what is sent.
+/// Pulls a member's reports that were not sent yet, of the symbols at which he is asked, and appends what is sent.
 fn pull_noted<F: Floor>(
     worker: &mut LineWorker,
     floor: &mut F,
@@ -27,7 +28,7 @@ fn pull_noted<F: Floor>(
     requires setup { IsSetUpFor worker.old.config (F.mark floor.old).setup }
     requires member { member < length worker.old.config.members }
     requires fronts { AreFronts (length worker.old.config.symbols) (λ symbol. (F.at floor.old symbol).reports) news.now.fronts.items }
-    ensures pulled { OnOk result (PulledIf (noted_at news.now.noted.items member) worker.old.config worker.old.moment
+    ensures pulled { OnOk result (PulledIf worker.old.config worker.old.moment (row_at news.now.asked.items member)
         (λ symbol. (F.at floor.new symbol).reports) member worker.old.desks worker.new.desks out.old.items out.new.items) }
 
     // What stays.
@@ -39,11 +40,15 @@ fn pull_noted<F: Floor>(
     if !news.is_noted(member) {
         return Ok(());
     }
-    worker.pull_news(floor, member, news.fronts(), out)
+    let awaited = Awaited {
+        fronts: news.fronts(),
+        asked: news.asked(member),
+    };
+    worker.pull_news(floor, member, awaited, out)
 }
 
-/// Pulls the reports of all noted members that were not sent yet, in the members' order, and appends what is sent. For a
-/// member who is not noted nothing waits.
+/// Pulls the members' reports that were not sent yet, in the members' order, each of the symbols at which he is asked, and
+/// appends what is sent. At the others nothing waits for him.
 pub fn pull_all<F: PlainFloor>(
     worker: &mut LineWorker,
     floor: &mut F,
@@ -54,12 +59,12 @@ pub fn pull_all<F: PlainFloor>(
     requires fronts { ShowsFronts F.at worker.old.config floor.old news.now.fronts.items }
     ensures desks { OnOk result ((journals : List (List Event)) (members : List Member)
         → ShowsJournals F.at worker.old.config floor.old journals
-        → AllZip (IsAsked news.now.noted.items worker.old.config journals) worker.old.desks members
+        → AllZip (IsAsked news.now.asked.items worker.old.config journals) worker.old.desks members
         → AllZip (IsDeskOfMember worker.old.config journals) worker.new.desks
         (map (pulled worker.old.config worker.old.moment journals) members)) }
     ensures text { OnOk result ((journals : List (List Event)) (members : List Member)
         → ShowsJournals F.at worker.old.config floor.old journals
-        → AllZip (IsAsked news.now.noted.items worker.old.config journals) worker.old.desks members
+        → AllZip (IsAsked news.now.asked.items worker.old.config journals) worker.old.desks members
         → out.new.items ≡ out.old.items ++ flat_map (pull_lines worker.old.config worker.old.moment journals) members) }
 
     // What stays.

@@ -1,7 +1,9 @@
-//! A line's own work, and whose piece the line is.
-ghost use Rattle.std.specs.Prelude.{◌≡◌, ◌++◌, map, IfOk, IfErr, OnOk, IsOkAnd};
+//! A line's own work, and whose session may have come up at it.
+ghost use Rattle.std.specs.Prelude.{◌≡◌, ◌++◌, ℕ, Some, None, map, slice_get, IfOk, IfErr, OnOk, IsOkAnd};
 ghost use Rattle.std.specs.List.{AllZip};
 ghost use Rattle.venue_words.specs.Floors.{IsSetUpFor};
+ghost use Rattle.session_core.specs.Machine.{IsUp};
+ghost use Rattle.member_gate.specs.Desks.{DeskView};
 ghost use Rattle.member_gate.specs.Submitting.{TookAll};
 ghost use Rattle.line_work.specs.FeedState.{FeedState};
 ghost use Rattle.line_work.specs.LineWork.{work_of_text};
@@ -18,18 +20,21 @@ use venue_words::{Floor, Steps};
 /// The number of a script's one feed.
 const FEED: u32 = 1;
 
-/// The member whose piece a line is.
-fn own_of(line: &Line) -> Option<u32>
-    ensures { result ≡ own_of line.now }
+/// The member whose piece a line is, if his session is not up.
+fn own_of(worker: &LineWorker, line: &Line) -> Option<u32>
+    ensures some { (member : ℕ) → result ≡ Some member → own_of line.now ≡ Some member }
+    ensures none { (member : ℕ) (desk : DeskView) → result ≡ None → own_of line.now ≡ Some member
+        → slice_get worker.now.desks member ≡ Some desk → IsUp desk.session }
 {
     match line {
-        Line::Piece { member, .. } => Some(*member),
+        Line::Piece { member, .. } if !worker.is_up(*member) => Some(*member),
         _ => None,
     }
 }
 
-/// Reads a line of a script, without its LF, and works it. It answers the member whose piece the line is, if it is one: no
-/// other member's session came up. A fault is that of line 1, and the worker stands at no line any more then.
+/// Reads a line of a script, without its LF, and works it. It answers the member whose piece the line is, if it is one and his
+/// session was not up before it: no other session came up. A fault is that of line 1, and the worker stands at no line any more
+/// then.
 pub fn work_text<F: Floor, L: Ledger>(
     alloc: Global,
     worker: &mut LineWorker,
@@ -64,7 +69,7 @@ pub fn work_text<F: Floor, L: Ledger>(
         Ok(line) => line,
         Err(fault) => return Err(fault),
     };
-    let own = own_of(&line);
+    let own = own_of(worker, &line);
     match worker.work(floor, FEED, line, out, steps) {
         Ok(()) => Ok(own),
         Err(refusal) => Err(refusal_at(1, refusal)),

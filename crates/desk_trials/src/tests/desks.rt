@@ -10,7 +10,7 @@ mod sequences;
 use counting::Counting;
 use fix_fields::moment;
 use fix_write::wrap;
-use member_gate::{CellDesks, Desk, DeskCell, DeskRefusal, DeskTable, Desks, desks_of};
+use member_gate::{Awaited, CellDesks, Desk, DeskCell, DeskRefusal, DeskTable, Desks, desks_of};
 use script_text::read_header;
 use sequences::{
     FULL, GAP_AND_TICK, LOGON, NEXT_CONNECTION, NOT_TOO_LONG, ORDER, REFUSALS, RESEND, TOO_LONG,
@@ -323,9 +323,13 @@ fn pull_known<F: Floor>(
     requires member { desk.old.member < length config.now.members }
     requires fronts { AreFronts (length config.now.symbols) (λ symbol. (F.at floor.old symbol).reports) fronts.now }
 {
-    let before = desk.has_news(fronts);
-    let frames = desk.pull_news(floor, config, fronts, start())?;
-    Ok((before, frames.len(), desk.has_news(fronts)))
+    let awaited = Awaited {
+        fronts,
+        asked: &[true, true],
+    };
+    let before = desk.has_news(awaited);
+    let frames = desk.pull_news(floor, config, awaited, start())?;
+    Ok((before, frames.len(), desk.has_news(awaited)))
 }
 
 /// The same where both symbols are asked first.

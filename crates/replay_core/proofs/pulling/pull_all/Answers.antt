@@ -2,7 +2,7 @@ use Rattle.std.proofs.Common.{◌≡◌, ◌<◌, ◌∙◌, ℕ, ℤ, List, len
 use Rattle.venue_words.specs.declared.command.Event.{Event}
 use Rattle.venue_words.specs.declared.config.Config.{Config}
 use Rattle.venue_words.specs.declared.report.Report.{Report}
-use Rattle.replay_core.specs.News.{noted_at, PulledIf}
+use Rattle.replay_core.specs.News.{row_at, PulledIf}
 use Rattle.replay_core.specs.PlainFloor.{ShowsJournals}
 use Rattle.replay_core.proofs.FloorWork.{shows_kept, reports_shown, fronts_kept}
 use Rattle.replay_core.proofs.Asking.{pulled_none, pulled_more, numbered_more, pulled_each}
@@ -29,11 +29,11 @@ loop-member-preserved g c =
     let config = c.args.worker.now.config in
     let mark = g.F.Floor.mark c.args.floor.now in
     let reports : ℕ → List Report = λ symbol. (g.F.Floor.at c.pull_noted.new.floor symbol).reports in
-    let p : PulledIf (noted_at c.args.news.now.noted.items c.loop-member.member) config c.args.worker.now.moment reports c.loop-member.member
+    let p : PulledIf config c.args.worker.now.moment (row_at c.args.news.now.asked.items c.loop-member.member) reports c.loop-member.member
     c.loop-member.worker.desks c.pull_noted.new.worker.desks c.loop-member.out.items c.pull_noted.new.out.items =
-    subst (λ (m : ℤ). PulledIf (noted_at c.args.news.now.noted.items c.loop-member.member) config m reports c.loop-member.member
+    subst (λ (m : ℤ). PulledIf config m (row_at c.args.news.now.asked.items c.loop-member.member) reports c.loop-member.member
     c.loop-member.worker.desks c.pull_noted.new.worker.desks c.loop-member.out.items c.pull_noted.new.out.items) c.loop-member.invariant.moment
-    (subst (λ (k : Config). PulledIf (noted_at c.args.news.now.noted.items c.loop-member.member) k c.loop-member.worker.moment reports
+    (subst (λ (k : Config). PulledIf k c.loop-member.worker.moment (row_at c.args.news.now.asked.items c.loop-member.member) reports
     c.loop-member.member c.loop-member.worker.desks c.pull_noted.new.worker.desks c.loop-member.out.items c.pull_noted.new.out.items)
     c.loop-member.invariant.config c.in_ok-pull_noted.ensures.pulled) in
     let keeps = λ (journals : List (List Event)) (s : ShowsJournals g.F.Floor.at config c.args.floor.now journals). shows_kept g.F.Floor.mark g.F.Floor.at g.F.Floor.step_limit g.F.PlainFloor.state config mark
@@ -45,10 +45,10 @@ loop-member-preserved g c =
     let count : length c.config.result.now.members ≡ length config.members = ap (λ (k : Config). length k.members) c.config.ensures.same in
     let within : c.loop-member.member < length config.members = omega (arith, count) in
     record {
-      pulled = λ journals members s h. pulled_more c.args.news.now.noted.items config c.args.worker.now.moment journals members
+      pulled = λ journals members s h. pulled_more c.args.news.now.asked.items config c.args.worker.now.moment journals members
           c.args.out.now.items reports c.loop-member.member c.loop-member.worker.desks c.pull_noted.new.worker.desks c.loop-member.out.items
           c.pull_noted.new.out.items (same journals s) c.loop-member.invariant.desks within p (c.loop-member.invariant.pulled journals members s h);
-      desks = numbered_more c.args.news.now.noted.items config c.args.worker.now.moment reports c.loop-member.member c.loop-member.worker.desks
+      desks = numbered_more (row_at c.args.news.now.asked.items c.loop-member.member) config c.args.worker.now.moment reports c.loop-member.member c.loop-member.worker.desks
           c.pull_noted.new.worker.desks c.loop-member.out.items c.pull_noted.new.out.items p c.loop-member.invariant.desks;
       config = c.in_ok-pull_noted.ensures.config ∙ c.loop-member.invariant.config;
       moment = c.in_ok-pull_noted.ensures.moment ∙ c.loop-member.invariant.moment;
@@ -61,12 +61,12 @@ loop-member-preserved g c =
 
 pub returns-clause-desks : goal.returns-clause-desks
 returns-clause-desks g c journals members s h =
-    (pulled_each c.args.news.now.noted.items c.args.worker.now.config c.args.worker.now.moment journals members c.args.out.now.items
+    (pulled_each c.args.news.now.asked.items c.args.worker.now.config c.args.worker.now.moment journals members c.args.out.now.items
     c.loop-member.member c.args.worker.now.desks c.loop-member.worker.desks c.loop-member.out.items c.config.ensures.desks
     (omega (arith, ap (λ (k : Config). length k.members) c.config.ensures.same)) h (c.loop-member.invariant.pulled journals members s h)).stand
 
 pub returns-clause-text : goal.returns-clause-text
 returns-clause-text g c journals members s h =
-    (pulled_each c.args.news.now.noted.items c.args.worker.now.config c.args.worker.now.moment journals members c.args.out.now.items
+    (pulled_each c.args.news.now.asked.items c.args.worker.now.config c.args.worker.now.moment journals members c.args.out.now.items
     c.loop-member.member c.args.worker.now.desks c.loop-member.worker.desks c.loop-member.out.items c.config.ensures.desks
     (omega (arith, ap (λ (k : Config). length k.members) c.config.ensures.same)) h (c.loop-member.invariant.pulled journals members s h)).text

@@ -9,12 +9,12 @@ use Rattle.replay_core.specs.Pulling.{ShowsFronts}
 use Rattle.replay_core.proofs.Asking.{PulledSome}
 use Rattle.replay_core.proofs.pulling.pull_all.Given as goal
 
--- the noted members so far were pulled, and what they were sent was appended; the floor shows what it did
+-- the members so far that are asked were pulled, and what they were sent was appended; the floor shows what it did
 abbrev pub invariant-loop-member : goal.invariant-loop-member
 invariant-loop-member g l = record {
   pulled : (journals : List (List Event)) (members : List Member) → ShowsJournals g.F.Floor.at l.initial.worker.config l.initial.floor journals
-      → AllZip (IsAsked l.news.noted.items l.initial.worker.config journals) l.initial.worker.desks members
-      → PulledSome l.news.noted.items l.initial.worker.config l.initial.worker.moment journals members l.initial.out.items l.member
+      → AllZip (IsAsked l.news.asked.items l.initial.worker.config journals) l.initial.worker.desks members
+      → PulledSome l.news.asked.items l.initial.worker.config l.initial.worker.moment journals members l.initial.out.items l.member
       l.worker.desks l.out.items;
   desks : AreDesks l.initial.worker.config l.worker.desks;
   config : l.worker.config ≡ l.initial.worker.config;

@@ -1,7 +1,7 @@
-use Rattle.std.proofs.Common.{◌≡◌, ◌++◌, ◌∙◌, sym, subst, Option, ℕ}
+use Rattle.std.proofs.Common.{◌≡◌, ◌++◌, ◌∙◌, sym}
 use Rattle.std.specs.List.{AllZip}
 use Rattle.member_gate.specs.Submitting.{TookAll}
-use Rattle.line_work.specs.LineWork.{LineWork, work_of_line}
+use Rattle.line_work.specs.LineWork.{LineWork}
 use Rattle.line_work.specs.Standing.{StandsFor}
 use Rattle.line_work.proofs.LineReads.{read_done, read_stopped, read_refused}
 use Rattle.replay_core.specs.News.{KeepsDown}
@@ -33,8 +33,9 @@ pub returns-in-Ok-work-clause-own : goal.returns-in-Ok-work-clause-own
 returns-in-Ok-work-clause-own g c state s =
     read_done (λ (work : LineWork). AllZip (KeepsDown c.own_of-own.result) state.connections work.state.connections) c.args.worker.now
     c.config.result.now state c.args.text.now c.in-Ok.line c.config.ensures.same s c.in-Ok.ensures.line
-    (subst (λ (own : Option ℕ). AllZip (KeepsDown own) state.connections (work_of_line state c.in-Ok.line).state.connections) (sym c.own_of-own.ensures)
-    (line_kept state c.in-Ok.line _ (sym (numbers_same c.args.worker.now.desks state.connections s.desks) ∙ c.config.ensures.desks)))
+    (line_kept state c.args.worker.now.desks c.in-Ok.line c.own_of-own.result _
+    (sym (numbers_same c.args.worker.now.desks state.connections s.desks) ∙ c.config.ensures.desks) s.desks
+    (record { some = c.own_of-own.ensures.some; none = c.own_of-own.ensures.none }))
 
 pub returns-in-Err-work-clause-refused : goal.returns-in-Err-work-clause-refused
 returns-in-Err-work-clause-refused g c state s =

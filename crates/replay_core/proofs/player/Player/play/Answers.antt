@@ -42,19 +42,19 @@ returns-clause-answer g c = elim c.match-pull_all.branch [
       let took = took_line g.F.Floor.mark g.F.Floor.at g.F.Floor.step_limit g.F.PlainFloor.state mark c.self.inside.worker next c.self.inside.floor
       c.args.steps.now (c.work_text.new.floor, c.work_text.new.steps) fronts c.self.inside.fault c.in-Ok.own playing c.args.text.now c.args.out.now.items
       c.work_text.new.out.items c.self.invariant.0 c.self.invariant.1 t c.work_text.ensures.config x in
-      let noted = noted_so g.F.Floor.at c.self.inside.worker.config c.work_text.new.floor fronts c.in-Ok.own c.self.inside.news.noted.items
-      c.look.new.self.noted.items c.self.invariant.2 c.self.invariant.3 c.look.ensures.own c.look.ensures.each in
+      let noted = noted_so g.F.Floor.at c.self.inside.worker.config c.work_text.new.floor fronts c.in-Ok.own c.self.inside.news.asked.items
+      c.look.new.self.asked.items c.self.invariant.2 c.self.invariant.3 c.look.ensures.own c.look.ensures.none in
       let behind = behind_work playing x.work (recorded_by playing x.work) in
       let y = behind_worked g.F.Floor.mark g.F.Floor.at g.F.Floor.step_limit g.F.PlainFloor.state mark c.self.inside.worker next c.self.inside.floor
       c.args.steps.now (c.work_text.new.floor, c.work_text.new.steps) fronts c.self.inside.fault c.in-Ok.own playing c.args.text.now c.args.out.now.items
-      c.work_text.new.out.items c.look.new.self.noted.items c.self.invariant.1 refl c.work_text.ensures.mark t c.work_text.ensures.desks
+      c.work_text.new.out.items c.look.new.self.asked.items c.self.invariant.1 refl c.work_text.ensures.mark t c.work_text.ensures.desks
       c.work_text.ensures.config c.work_text.ensures.cursors x took noted in
-      let grew = text_pulled g.F.Floor.at next c.work_text.new.floor c.look.new.self.noted.items behind c.work_text.new.out.items
+      let grew = text_pulled g.F.Floor.at next c.work_text.new.floor c.look.new.self.asked.items behind c.work_text.new.out.items
       c.pull_all.new.out.items y (w.in-Ok-pull_all.ensures.text behind.journals (members_of behind) y.shows y.asked) in
       let told = line_told c.args.line playing c.args.text.now c.args.out.now.items c.work_text.new.out.items c.pull_all.new.out.items x.work x.says
       took.room c.requires x.told grew in
       let stands = stands_pulled g.F.Floor.at next c.pull_all.new.worker c.work_text.new.floor c.pull_all.new.floor c.look.new.self.fronts.items
-      c.look.new.self.noted.items c.self.inside.fault behind y t.clear c.pull_all.ensures.config c.pull_all.ensures.moment
+      c.look.new.self.asked.items c.self.inside.fault behind y t.clear c.pull_all.ensures.config c.pull_all.ensures.moment
       (w.in-Ok-pull_all.ensures.desks behind.journals (members_of behind) y.shows y.asked) (c.pull_all.ensures.journals behind.journals y.shows)
       w.in-Ok-pull_all.ensures.shown in
       subst (λ (r : Result (Unit {0}) LineFault). MeetsInPlace (StandsFor g.F.Floor.at) (play_line c.args.line playing c.args.text.now).result r
