@@ -1,5 +1,5 @@
 -- Feeds whose members were sent other things.
-use Rattle.std.specs.Prelude.{◌≡◌, List, length}
+use Rattle.std.specs.Prelude.{◌≡◌}
 use Rattle.std.specs.List.{AllZip}
 use Rattle.session_core.specs.Alike.{AreAlike}
 use Rattle.line_work.specs.FeedState.{FeedState, Connection}

@@ -1,5 +1,5 @@
 -- What the members of a feed were sent changes none of its commands.
-use Rattle.std.proofs.Common.{◌≡◌, ◌⊎◌, ℕ, zero, suc, ℤ, List, [], ◌∷◌, ◌++◌, length, map, slice_get, slice_set, unwrap_or, Option, Result, Ok, Err, refl, sym, ◌∙◌, ap, subst}
+use Rattle.std.proofs.Common.{◌≡◌, ℕ, zero, suc, ℤ, List, [], ◌∷◌, ◌++◌, map, slice_get, slice_set, unwrap_or, Result, Ok, Err, refl, ap, subst}
 use Rattle.std.specs.List.{AllZip}
 use Rattle.venue_words.specs.declared.config.Config.{Config}
 use Rattle.session_core.specs.Machine.{Machine, on_clock}
@@ -7,7 +7,6 @@ use Rattle.session_core.specs.Alike.{AreAlike, GiveAlike}
 use Rattle.session_core.specs.AlikeLaws.{clock-alike, connected-alike}
 use Rattle.member_gate.specs.Alike.{SubmitAlike}
 use Rattle.member_gate.specs.AlikeLaws.{reading_submits-alike}
-use Rattle.member_gate.specs.Answering.{Submission}
 use Rattle.member_gate.specs.Working.{work_of_reading}
 use Rattle.script_text.specs.declared.body.Line.{Line}
 use Rattle.script_text.specs.declared.body.Line.TheVariants.{Moment, Quote, Piece, Open}

@@ -193,7 +193,15 @@ fn look_where_past<F: Floor>(
     ensures front { IfOk result (λ front. front ≡ length (F.at floor.new known.symbol).reports) }
 {
     if known.asked && known.from < known.front {
-        look(alloc, floor, config, member, known.symbol, known.from, messages)
+        look(
+            alloc,
+            floor,
+            config,
+            member,
+            known.symbol,
+            known.from,
+            messages,
+        )
     } else {
         Ok(known.front)
     }

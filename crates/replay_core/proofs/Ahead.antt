@@ -1,5 +1,5 @@
 -- What a text makes from a place on, by its first line.
-use Rattle.std.proofs.Common.{◌≡◌, ℕ, ◌+◌, ◌<◌, Bool, true, false, List, [], ◌∷◌, ◌++◌, length, Some, refl, append-nil, arith, nat_lt, cond, length-append}
+use Rattle.std.proofs.Common.{◌≡◌, ℕ, ◌+◌, ◌<◌, Bool, true, false, List, [], ◌∷◌, ◌++◌, length, Some, refl, arith, nat_lt, cond, length-append}
 use Rattle.std.proofs.lemmas.Bool.Decides.{nat_tests}
 use Rattle.venue_words.specs.declared.limits.TheConstants.{MAX_LINE_BYTES}
 use Rattle.script_text.specs.Lines.{cut, has_end}

@@ -1,16 +1,12 @@
 -- Each line that was taken goes on with the journals as a feed to which nothing is sent does with its commands.
-use Rattle.std.proofs.Common.{◌≡◌, ℕ, zero, suc, ℤ, ◌+◌, ◌<◌, Bool, true, false, cond, List, [], ◌∷◌, ◌++◌, length, map, replicate, Option, Some, None, Result, Ok, Err, refl, sym, ◌∙◌, ap, subst, arith}
+use Rattle.std.proofs.Common.{◌≡◌, ℕ, zero, suc, ℤ, ◌+◌, ◌<◌, Bool, true, false, cond, List, [], ◌∷◌, ◌++◌, length, map, replicate, Some, Result, Ok, Err, refl, sym, ◌∙◌, ap, subst, arith}
 use Rattle.std.specs.List.{AllZip, range_with_len}
 use Rattle.std.proofs.lemmas.List.FromFn.{length-map-range_with_len}
-use Rattle.venue_words.specs.declared.command.Command.{Command}
 use Rattle.venue_words.specs.declared.command.Event.{Event}
 use Rattle.venue_words.specs.declared.config.Config.{Config}
 use Rattle.session_core.specs.AlikeLaws.{sends_if_up-alike}
 use Rattle.member_gate.specs.Answering.{Submission}
 use Rattle.member_gate.specs.Reporting.{messages_past}
-use Rattle.script_text.specs.Header.{header_line, blank}
-use Rattle.script_text.specs.Lines.{cut}
-use Rattle.script_text.specs.declared.header.Header.{Header}
 use Rattle.script_text.specs.declared.fault.LineFault.{LineFault}
 use Rattle.line_work.specs.Alike.{ConnectionsAlike, FeedsAlike}
 use Rattle.line_work.specs.AlikeLaws.{WorkAlike, TextAlike, same_alike, text_alike}
@@ -18,12 +14,12 @@ use Rattle.line_work.specs.Commands.{at_moment, and_then, submitted_by, commands
 use Rattle.line_work.specs.FeedState.{FeedState, Connection, before_lines, new_connection}
 use Rattle.line_work.specs.LineWork.{LineWork, work_of_text}
 use Rattle.line_work.specs.LineWorkLaws.{text_keeps_config, text_keeps_count}
-use Rattle.replay_core.specs.Histories.{HoldsCommands, events_from, place_behind, behind_result, body_lines, cut_off, on_header, RecordsCommands}
-use Rattle.replay_core.specs.Play.{Place, Stage, Head, Body, Stepped, turned, after_header, after_body, placed, next_place, step_at, play, played, after_result, end_at, end_of, stopped, start, script}
+use Rattle.replay_core.specs.Histories.{HoldsCommands, place_behind, behind_result}
+use Rattle.replay_core.specs.Play.{Place, Stage, Body, Stepped, turned, after_body, placed, next_place, step_at}
 use Rattle.replay_core.specs.PlayLine.{play_line, answer_to, answer_to_work, recorded_by, behind_work, with_pulls}
-use Rattle.replay_core.specs.Playing.{Playing, Member, members_in, members_of, before_body, journal_at, reports_at}
+use Rattle.replay_core.specs.Playing.{Playing, Member, members_in, before_body, journal_at, reports_at}
 use Rattle.replay_core.specs.Pulling.{pulled, after_pulls}
-use Rattle.replay_core.specs.Recording.{Recorded, recorded}
+use Rattle.replay_core.specs.Recording.{Recorded}
 use Rattle.replay_core.proofs.Lists.{no_journal}
 use Rattle.replay_core.proofs.RecordedCommands.{Continues, continues_none, continues_on, commands_append, commands_recorded, count_recorded}
 

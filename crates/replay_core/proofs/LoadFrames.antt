@@ -19,7 +19,6 @@ use Rattle.fix_frames.specs.StreamLaws.{next_from-whole, skips_none}
 use Rattle.fix_frames.specs.Streams.{Stream, HasGiven, gives}
 use Rattle.session_core.specs.declared.message.Request.{Request}
 use Rattle.session_core.specs.declared.message_types.TheConstants.{LOGON}
-use Rattle.session_core.specs.declared.checks.FailedCheck.{FailedCheck}
 use Rattle.session_core.specs.declared.state.Phase.TheVariants.{New}
 use Rattle.session_core.specs.declared.state.State.{State}
 use Rattle.session_core.specs.Answers.{drops, logs_out, drops_wrong_name}
@@ -27,12 +26,12 @@ use Rattle.session_core.specs.Cases.{on_message}
 use Rattle.session_core.specs.Content.{content_of}
 use Rattle.session_core.specs.Logon.{is_bad_logon, next_of_logon, on_logon, before_logon, takes_logon}
 use Rattle.session_core.specs.Lookup.{is_value, kind_of, message_number}
-use Rattle.session_core.specs.Machine.{Machine, Outcome, on_frame, on_fields, plan_for, carried_out, incoming, fresh}
+use Rattle.session_core.specs.Machine.{Machine, on_frame, on_fields, plan_for, carried_out, incoming, fresh}
 use Rattle.session_core.specs.MessageTypes.{is_order}
 use Rattle.session_core.specs.State.{heard, is_up}
 use Rattle.order_fields.specs.declared.order.Refusal.TheVariants.{Business}
 use Rattle.order_fields.specs.Order.{order, symbol_of, decoded_at, decoded_of, unless_failed, failed_of}
-use Rattle.member_gate.specs.Answering.{Submission, Work, answer, answer_to, name_at, idle}
+use Rattle.member_gate.specs.Answering.{Submission, answer, answer_to, name_at}
 use Rattle.member_gate.specs.Working.{handed_out, work_of_frame, work_of_reading}
 use Rattle.line_work.specs.LineWork.{reading_behind}
 

@@ -1,30 +1,25 @@
 -- Every line of the load script is taken.
-use Rattle.std.proofs.Common.{◌≡◌, ℕ, zero, suc, ◌+◌, ◌*◌, ◌^◌, ◌<◌, ◌≤◌, nat_lt, Bool, true, false, cond, ℤ, List, [], ◌∷◌, ◌++◌, length, map, Option, Some, None, Result, Ok, codes, decimal, refl, sym, ◌∙◌, ap, subst, append_assoc, length-append, arith}
+use Rattle.std.proofs.Common.{◌≡◌, ℕ, zero, suc, ◌+◌, ◌*◌, ◌^◌, ◌<◌, ◌≤◌, nat_lt, true, false, ℤ, List, [], ◌∷◌, ◌++◌, length, map, None, Ok, codes, decimal, refl, sym, ◌∙◌, ap, subst, append_assoc, length-append, arith}
 use Rattle.std.proofs.lemmas.Bool.Decides.{nat_tests}
 use Rattle.std.proofs.lemmas.Fmt.{length-decimal-le}
 use Rattle.std.specs.List.{range_with_len}
 use Rattle.venue_words.specs.declared.command.Event.{Event}
 use Rattle.venue_words.specs.declared.limits.TheConstants.{MAX_LINE_BYTES, MAX_SCRIPT_BYTES}
-use Rattle.fix_frames.specs.Frames.{IsFrame}
-use Rattle.member_gate.specs.Answering.{Submission, name_at}
+use Rattle.member_gate.specs.Answering.{Submission}
 use Rattle.member_gate.specs.Working.{work_of_reading}
 use Rattle.session_core.specs.Machine.{Machine, fresh}
-use Rattle.script_text.specs.Header.{header_line, blank, with_config}
+use Rattle.script_text.specs.Header.{header_line, blank}
 use Rattle.script_text.specs.Load.{load_lines, first_lines, order_line, quote_line, last_line}
-use Rattle.script_text.specs.declared.body.Line.{Line}
-use Rattle.script_text.specs.declared.body.Line.TheVariants.{Piece, Quote}
-use Rattle.script_text.specs.declared.fault.LineFault.{LineFault}
 use Rattle.script_text.specs.declared.header.Header.{Header}
-use Rattle.script_text.specs.Body.{read_of}
 use Rattle.line_work.specs.FeedState.{FeedState, Connection, new_connection}
-use Rattle.line_work.specs.LineWork.{LineWork, work_of_line, work_of_read, work_of_text, work_of_bytes, reading_behind, fed, piece_lines}
+use Rattle.line_work.specs.LineWork.{LineWork, work_of_read, work_of_text, work_of_bytes, reading_behind, fed, piece_lines}
 use Rattle.replay_core.specs.Loading.{loaded}
 use Rattle.replay_core.specs.Plan.{most_load}
 use Rattle.replay_core.specs.Play.{Place, Stage, Head, Body, Played, play, step_at, turned, next_place, start, end_at}
-use Rattle.replay_core.specs.PlayLine.{play_line, answer_to, answer_to_work}
+use Rattle.replay_core.specs.PlayLine.{play_line, answer_to_work}
 use Rattle.replay_core.specs.Playing.{Playing, Member, before_body}
 use Rattle.replay_core.specs.Pulling.{pulled, lines_of_pulls}
-use Rattle.replay_core.specs.Recording.{Recorded, recorded, has_room, next_event}
+use Rattle.replay_core.specs.Recording.{recorded, has_room, next_event}
 use Rattle.replay_core.proofs.LineByLine.{worked_line}
 use Rattle.replay_core.proofs.LoadFrames.{IsWhole, whole_none, whole_on, AtMostOne, few_given, none_given}
 use Rattle.replay_core.proofs.LoadTexts.{IsMessage, IsQuoteLine, load_config, begins_at, frame_in, message_framed, message_read, message_short, logon_line, logon_message, first_quote, each_quote, order_message, last_message, header_one, header_two, header_three, header_four, version_read, member_read, market_read, symbol_read, begin_read}

@@ -1,5 +1,5 @@
 -- Each line of the load script is read: the header as a config, messages as frames, quotes as quotes.
-use Rattle.std.proofs.Common.{◌≡◌, ℕ, suc, ◌+◌, ◌-◌, ◌*◌, ◌%◌, ◌^◌, ◌<◌, ◌≤◌, ◌==◌, ◌||◌, nat_eq, nat_lt, nat_le, Bool, true, false, cond, ℤ, pos, List, [], ◌∷◌, ◌++◌, length, map, drop, get_or, fold, Option, Some, None, Ok, codes, decimal, sum, is_some, unwrap_or, refl, sym, ◌∙◌, ap, append_assoc, drop_at, length-append, arith, rules}
+use Rattle.std.proofs.Common.{◌≡◌, ℕ, ◌+◌, ◌-◌, ◌*◌, ◌%◌, ◌^◌, ◌<◌, ◌≤◌, ◌==◌, ◌||◌, nat_eq, nat_lt, nat_le, Bool, true, false, cond, ℤ, pos, List, [], ◌∷◌, ◌++◌, length, map, get_or, fold, Option, Some, None, Ok, codes, decimal, sum, is_some, unwrap_or, refl, sym, ◌∙◌, ap, append_assoc, drop_at, length-append, arith, rules}
 use Rattle.std.proofs.lemmas.Bool.{and_parts, and_from}
 use Rattle.std.proofs.lemmas.Bool.Decides.{nat_tests}
 use Rattle.std.proofs.lemmas.Fmt.{digits_decimal, digits_value-decimal, length-decimal-le, decimal_nonempty, first_decimal}
@@ -22,10 +22,9 @@ use Rattle.quote_intake.specs.Price.{is_digit, number_of, digits_of, price_of, c
 use Rattle.quote_intake.specs.Quote.{quote_in, number_in}
 use Rattle.script_text.specs.Body.{read_of, line_of, keyed_body, piece_line, piece_read, message_of, at_line}
 use Rattle.script_text.specs.Escaping.{is_plain, is_plain_or, replaced, lone_byte, before_bytes, text_of}
-use Rattle.script_text.specs.Header.{header_line, first_line, keyed, keyed_else, member_line, market_line, symbol_line, begin_line, name_cause, goes_on, begins, with_config, with_version, with_member, with_market, with_symbol, blank}
+use Rattle.script_text.specs.Header.{header_line, first_line, keyed, keyed_else, member_line, market_line, symbol_line, begin_line, name_cause, with_config, with_version, with_member, with_market, with_symbol, blank}
 use Rattle.script_text.specs.Load.{order_front, offset_text, order_line, quote_line, last_line}
 use Rattle.script_text.specs.Words.{is_name, is_name_byte, is_letter, limit_of, script_moment}
-use Rattle.script_text.specs.declared.body.Line.{Line}
 use Rattle.script_text.specs.declared.body.Line.TheVariants.{Piece, Quote}
 use Rattle.script_text.specs.declared.header.Header.{Header}
 

@@ -7,7 +7,6 @@ use Rattle.std.specs.Io.KnownBytes.{Appends}
 use Rattle.io_edge.specs.Grows.{AppendsPrefix}
 use Rattle.venue_words.specs.Floors.{SymbolView}
 use Rattle.script_text.specs.Load.{load_lines, first_lines, order_line, quote_line, last_line}
-use Rattle.script_text.specs.declared.header.Header.{Header}
 use Rattle.script_text.specs.declared.fault.LineFault.{LineFault}
 use Rattle.script_text.specs.declared.fault.LineFault.TheVariants as fault
 use Rattle.script_text.specs.declared.fault.LineCause.TheVariants.{NoEnd}
@@ -17,7 +16,7 @@ use Rattle.venue_words.specs.declared.limits.TheConstants.{MAX_LINE_BYTES, MAX_S
 use Rattle.replay_core.specs.Loading.{loaded, line_behind, summary, Loaded, LoadOutcome, LoadsTo}
 use Rattle.replay_core.specs.Phases.{IsAtStage}
 use Rattle.replay_core.specs.Plan.{most_load}
-use Rattle.replay_core.specs.Play.{Place, Stage, Head, Body, Played, Stepped, play, step_at, after_line, onto, start, end_at, end_of, finished, stopped}
+use Rattle.replay_core.specs.Play.{Place, Stage, Head, Body, Played, play, step_at, after_line, onto, start, end_at, end_of, finished, stopped}
 use Rattle.replay_core.specs.Playing.{Playing}
 use Rattle.replay_core.specs.Reading.{IsAtPlace, IsBehind, IsLineAt}
 use Rattle.replay_core.specs.Stages.{Kept, StandsFor}

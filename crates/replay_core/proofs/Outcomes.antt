@@ -17,14 +17,14 @@ use Rattle.script_text.specs.declared.fault.LimitCause.TheVariants.{Line}
 use Rattle.line_reader.specs.Reading.{Reading, before_lines}
 use Rattle.line_reader.specs.ReadingLaws.{taken_more}
 use Rattle.line_reader.specs.NextLines.{HandsOut, IsAllRead, IsTooLong, IsCutOff}
-use Rattle.line_reader.specs.NextLaws.{LongFront, long_front}
+use Rattle.line_reader.specs.NextLaws.{long_front}
 use Rattle.replay_core.specs.Play.{Place, Played, played, start, script, onto, end_at, play, stopped}
 use Rattle.replay_core.specs.Reading.{Goes, InMiddle, IsAtPlace, IsLineAt, fault_in}
-use Rattle.replay_core.specs.Telling.{Seen, Leads, Begins, Halts, GaveUp, StopsIn, Outcome, Ran, ending}
+use Rattle.replay_core.specs.Telling.{Seen, Leads, Begins, Halts, StopsIn, Outcome, Ran, ending}
 use Rattle.replay_core.specs.declared.phase.Phase.{Phase}
 use Rattle.replay_core.specs.declared.status.Status.{Status}
 use Rattle.replay_core.specs.declared.status.Status.TheVariants.{Done, BadWords, BadLine, LimitLine, ReadFault, WriteFault, NoMemory}
-use Rattle.replay_core.proofs.Ahead.{played_end, played_long, end_at_text, end_at_steps, end_at_fault}
+use Rattle.replay_core.proofs.Ahead.{played_end, played_long, end_at_text, end_at_fault}
 use Rattle.replay_core.proofs.Leading.{appends_none, appends_trans, leads_none, leads_trans}
 
 -- ---- in the middle

@@ -1,16 +1,15 @@
 -- Words that have no form, and want of memory before anything was done.
-use Rattle.std.proofs.Common.{◌≡◌, ◌≢◌, ◌⊎◌, ℕ, List, Option, Some, None, IfSome, IsSome, refl, ap, subst, inl, inr, sym, ◌∙◌, arith}
+use Rattle.std.proofs.Common.{◌≡◌, ℕ, List, Option, Some, None, IfSome, IsSome, refl, ap, inl, inr, sym, ◌∙◌, arith}
 use Rattle.io_edge.specs.Files.{Files}
 use Rattle.program_words.specs.declared.WordFault.{WordFault}
 use Rattle.program_words.specs.declared.WordFault.TheVariants as word
 use Rattle.replay_core.specs.Causes.{script_in, script_named, bytes_named, script_told, LacksScript}
-use Rattle.replay_core.specs.Loading.{loaded, summary, Loaded}
-use Rattle.replay_core.specs.Plan.{Plan, Script, Load, plan_of}
+use Rattle.replay_core.specs.Loading.{summary, Loaded}
+use Rattle.replay_core.specs.Plan.{Plan, plan_of}
 use Rattle.replay_core.specs.Runs.{Ends}
 use Rattle.replay_core.specs.Statuses.{refusal_of}
-use Rattle.replay_core.specs.Telling.{Seen, Ran}
-use Rattle.replay_core.specs.declared.status.Status.{Status}
-use Rattle.replay_core.specs.declared.status.Status.TheVariants.{BadWords, ReadFault, NoMemory}
+use Rattle.replay_core.specs.Telling.{Seen}
+use Rattle.replay_core.specs.declared.status.Status.TheVariants.{BadWords, NoMemory}
 use Rattle.replay_core.proofs.Outcomes.{no_room, prefix_none}
 
 nothing_named : (told : Option Files) → bytes_named told None ≡ None

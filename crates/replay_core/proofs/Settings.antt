@@ -1,5 +1,5 @@
 -- A venue of a config for one thread is a plain floor of it.
-use Rattle.std.proofs.Common.{Some, Result, Ok, Err, IfOk, refl, sym, subst}
+use Rattle.std.proofs.Common.{Result, Ok, Err, IfOk, refl, sym, subst}
 use Rattle.venue_words.specs.Conditions.{IsConfig}
 use Rattle.venue_words.specs.Floors.{FloorMark}
 use Rattle.venue_words.specs.declared.config.Config.{Config}

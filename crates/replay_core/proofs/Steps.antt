@@ -1,10 +1,9 @@
 -- A line at a place, from what it comes to at the stage.
-use Rattle.std.proofs.Common.{◌≡◌, ◌⊎◌, ℕ, ◌≤◌, ◌+◌, nat_lt, cond, Bool, true, false, List, length, Result, Ok, Err, OnOk, refl, sym, ◌∙◌, ap, subst, inl, inr, arith}
+use Rattle.std.proofs.Common.{◌≡◌, ℕ, ◌≤◌, ◌+◌, nat_lt, cond, Bool, true, false, List, length, Result, Ok, Err, OnOk, refl, sym, ◌∙◌, ap, subst, inl, inr, arith}
 use Rattle.std.proofs.lemmas.Bool.Decides.{nat_tests}
 use Rattle.venue_words.specs.Floors.{SymbolView}
 use Rattle.venue_words.specs.declared.limits.TheConstants.{MAX_LINE_BYTES, MAX_SCRIPT_BYTES}
 use Rattle.script_text.specs.declared.fault.LineFault.{LineFault}
-use Rattle.script_text.specs.declared.fault.LineFault.TheVariants.{NoMemory}
 use Rattle.line_reader.specs.Over.{over, over_fault, weighed}
 use Rattle.replay_core.specs.Meets.{MeetsInPlace}
 use Rattle.replay_core.specs.Phases.{IsAtStage}

@@ -5,7 +5,7 @@ use Rattle.venue_words.specs.Floors.{SymbolView}
 use Rattle.venue_words.specs.declared.limits.TheConstants.{MAX_SCRIPT_BYTES}
 use Rattle.script_text.specs.declared.fault.LineFault.{LineFault}
 use Rattle.replay_core.specs.Phases.{IsAtStage}
-use Rattle.replay_core.specs.Play.{Place, Played, played, start, end_at}
+use Rattle.replay_core.specs.Play.{Place, played, start, end_at}
 use Rattle.replay_core.specs.Telling.{Seen, Leads}
 use Rattle.replay_core.specs.declared.phase.Phase.{Phase}
 

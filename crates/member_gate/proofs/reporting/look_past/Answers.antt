@@ -1,5 +1,5 @@
 -- One more symbol was asked for; behind the last one the cursors that are left stay.
-use Rattle.std.proofs.Common.{◌≡◌, ℕ, ◌<◌, ◌≤◌, max, Bool, true, List, ◌∷◌, [], ◌++◌, length, drop, ◌∙◌, ap, sym, subst, arith}
+use Rattle.std.proofs.Common.{◌≡◌, ℕ, ◌<◌, max, Bool, true, List, ◌∷◌, [], ◌++◌, length, drop, ◌∙◌, ap, sym, subst, arith}
 use Rattle.venue_words.specs.Floors.{SymbolView, TurnsRose}
 use Rattle.member_gate.specs.Answering.{name_at}
 use Rattle.member_gate.specs.Reporting.{cursor_at, asked_at, where_asked, messages_at, HasNoNews, IsAskedForNews}

@@ -1,4 +1,4 @@
-use Rattle.std.proofs.Common.{refl, inl, inr}
+use Rattle.std.proofs.Common.{refl, inr}
 use Rattle.replay_core.proofs.pulling.pull_noted.Goals as goal
 
 pub returns-then-not-is_noted-clause-pulled : goal.returns-then-not-is_noted-clause-pulled
