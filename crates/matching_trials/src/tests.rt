@@ -1,4 +1,5 @@
 //! One module for each crate that is tried.
+mod checks;
 mod moves;
 mod random;
 mod sides;

@@ -1,6 +1,7 @@
 //! The last change below a limit, on examples and beside a plain list of all moves.
 ghost use Rattle.std.specs.Prelude.{◌≡◌, ◌<◌, OnOk};
 
+use super::checks::check;
 use super::random::Random;
 use move_history::Moves;
 use std::alloc::Global;
@@ -68,6 +69,23 @@ fn count_example<L: Ledger>(alloc: Global, blank: Blank) -> Result<[u32; 4], NoM
     worked_example(alloc, &mut steps)
 }
 
+/// Both answer alike below a cap.
+fn compare_at<L: Ledger>(
+    rt: &impl Abort,
+    moves: &Moves,
+    plain: &[(u32, u32)],
+    cap: u32,
+    steps: &mut Steps<L>,
+) {
+    let right = plain_changed(7, plain, cap);
+    check(
+        rt,
+        moves.changed(cap, steps) == right,
+        "the last change below a cap",
+        cap,
+    );
+}
+
 fn compare_many<L: Ledger>(
     rt: &impl Abort,
     alloc: Global,
@@ -81,20 +99,11 @@ fn compare_many<L: Ledger>(
         plain.push((event, value))?;
         moves.reserve()?;
         moves.push(event, value, steps);
-        let cap = random.below(202);
-        assert_eq!(rt;
-            moves.changed(cap, steps),
-            plain_changed(7, plain.as_slice(), cap),
-            "cap {cap}"
-        );
-        assert_eq!(rt; moves.current(), value);
+        compare_at(rt, &moves, plain.as_slice(), random.below(202), steps);
+        check(rt, moves.current() == value, "the value", event);
     }
     for cap in 0..203 {
-        assert_eq!(rt;
-            moves.changed(cap, steps),
-            plain_changed(7, plain.as_slice(), cap),
-            "cap {cap}"
-        );
+        compare_at(rt, &moves, plain.as_slice(), cap, steps);
     }
     Ok(())
 }
@@ -111,7 +120,7 @@ fn count_many<L: Ledger>(rt: &impl Abort, alloc: Global, blank: Blank) -> Result
 #[test]
 fn a_dip_below_a_limit_and_back_is_a_change(rt: HostRuntime) -> Result<(), Fail> {
     let found = count_example::<Brand>(rt.alloc(), Blank::new(1))?;
-    assert_eq!(rt; found, [2, 8, 2, 8]);
+    check(&rt, found == [2, 8, 2, 8], "the example", 0);
     Ok(())
 }
 

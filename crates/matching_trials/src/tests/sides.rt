@@ -1,9 +1,10 @@
 //! Both forms of a side answer the same calls alike.
-ghost use Rattle.std.specs.Prelude.{◌≡◌, ◌+◌, ◌<◌, ◌^◌, negsuc, pos, ◌≤ℤ◌, IfOk, OnOk};
+ghost use Rattle.std.specs.Prelude.{◌≡◌, ◌+◌, ◌<◌, ◌^◌, IfOk, OnOk};
 ghost use Rattle.limit_tree.specs.Part.{IsLeaf};
-ghost use Rattle.venue_words.specs.Conditions.{IsKey, IsRow, IsTick};
+ghost use Rattle.venue_words.specs.Conditions.{IsKey, IsRow};
 ghost use Rattle.peg_groups.specs.Side.{IsLaterThan, first_state};
 
+use super::checks::check;
 use super::random::Random;
 use limit_tree::{Node, fill, leaf};
 use peg_groups::{FlatSide, GroupSide, SideBook};
@@ -34,17 +35,16 @@ struct Answer {
     keys: usize,
 }
 
-fn key(reference: Reference, offset: i32, rounding: Rounding, grid: u32) -> Key
-    requires offset { (negsuc 199 ≤ℤ offset) × (offset ≤ℤ pos 200) }
-    requires grid { IsTick grid }
+/// A key of buys with an offset that is no larger than one may be, at a tick of one cent or of five.
+fn key(reference: Reference, offset: i32, rounding: Rounding, is_coarse: bool) -> Key
     ensures { IsKey result }
 {
     Key {
         side: Side::Buy,
         reference,
-        offset,
+        offset: offset.clamp(-200, 200),
         rounding,
-        grid,
+        grid: if is_coarse { 10 } else { 2 },
     }
 }
 
@@ -53,13 +53,13 @@ fn key_of(number: u32) -> Key
     ensures { IsKey result }
 {
     match number % 7 {
-        0 => key(Reference::Mid, 0, Rounding::Unrounded, 2),
-        1 => key(Reference::Primary, 0, Rounding::Unrounded, 2),
-        2 => key(Reference::Limit, 0, Rounding::Unrounded, 2),
-        3 => key(Reference::Primary, 4, Rounding::Unrounded, 2),
-        4 => key(Reference::Market, -6, Rounding::Unrounded, 2),
-        5 => key(Reference::Mid, 1, Rounding::Aggressive, 10),
-        _ => key(Reference::Primary, -3, Rounding::Passive, 10),
+        0 => key(Reference::Mid, 0, Rounding::Unrounded, false),
+        1 => key(Reference::Primary, 0, Rounding::Unrounded, false),
+        2 => key(Reference::Limit, 0, Rounding::Unrounded, false),
+        3 => key(Reference::Primary, 4, Rounding::Unrounded, false),
+        4 => key(Reference::Market, -6, Rounding::Unrounded, false),
+        5 => key(Reference::Mid, 1, Rounding::Aggressive, true),
+        _ => key(Reference::Primary, -3, Rounding::Passive, true),
     }
 }
 
@@ -263,11 +263,18 @@ fn is_large(last: Option<&Answer>) -> bool {
 }
 
 fn compare(rt: &impl Abort, answers: &[Answer], others: &[Answer]) {
-    assert_eq!(rt; answers.len(), others.len());
-    for (number, (answer, other)) in answers.iter().zip(others.iter()).enumerate() {
-        assert_eq!(rt; answer, other, "at {number}");
+    let mut number = 0u32;
+    for (answer, other) in answers.iter().zip(others.iter()) {
+        check(rt, answer == other, "an answer", number);
+        number = number.saturating_add(1);
     }
-    assert!(rt; is_large(answers.last()));
+    check(
+        rt,
+        answers.len() == others.len(),
+        "the number of answers",
+        number,
+    );
+    check(rt, is_large(answers.last()), "the size of the side", number);
 }
 
 fn compare_sides<L: Ledger>(

@@ -2,6 +2,7 @@
 ghost use Rattle.std.specs.Prelude.{◌≡◌, ◌<◌, IfOk};
 ghost use Rattle.limit_tree.specs.Part.{IsLeaf};
 
+use super::checks::check;
 use super::random::Random;
 use limit_tree::{LimitTree, Node, fill, leaf};
 use std::alloc::{AllocError, Global};
@@ -51,7 +52,7 @@ fn enter<L: Ledger>(rt: &impl Abort, tree: &mut LimitTree, node: Box<Node>, step
     requires { IsLeaf node.value }
 {
     let held = tree.holds(node.row.cap, node.row.entry, steps);
-    assert!(rt; !held);
+    check(rt, !held, "a new row is held", node.row.cap);
     if !held {
         tree.put(node, steps);
     }
@@ -78,13 +79,33 @@ fn is_pair(found: Pair, cap: u32, entry: u32) -> bool {
 }
 
 fn look_up_example<L: Ledger>(rt: &impl Abort, tree: &LimitTree, steps: &mut Steps<L>) {
-    assert!(rt; is_pair(tree.first_above(1995, steps), 2010, 3));
-    assert!(rt; is_pair(tree.first_at(2000, steps), 2000, 5));
-    assert!(rt; is_pair(tree.highest_below(2000, steps), 1990, 1));
-    assert!(rt; tree.first_above(2010, steps).is_none());
-    assert!(rt; tree.holds(2000, 5, steps));
-    assert!(rt; tree.holds(2010, 3, steps));
-    assert!(rt; tree.holds(1990, 1, steps));
+    check(
+        rt,
+        is_pair(tree.first_above(1995, steps), 2010, 3),
+        "the first above",
+        1995,
+    );
+    check(
+        rt,
+        is_pair(tree.first_at(2000, steps), 2000, 5),
+        "the first",
+        2000,
+    );
+    check(
+        rt,
+        is_pair(tree.highest_below(2000, steps), 1990, 1),
+        "the highest below",
+        2000,
+    );
+    check(
+        rt,
+        tree.first_above(2010, steps).is_none(),
+        "none above",
+        2010,
+    );
+    check(rt, tree.holds(2000, 5, steps), "a row", 2000);
+    check(rt, tree.holds(2010, 3, steps), "a row", 2010);
+    check(rt, tree.holds(1990, 1, steps), "a row", 1990);
 }
 
 fn worked_example<L: Ledger>(
@@ -93,10 +114,10 @@ fn worked_example<L: Ledger>(
     steps: &mut Steps<L>,
 ) -> Result<(), AllocError> {
     let mut tree = LimitTree::new();
-    assert!(rt; tree.is_empty());
+    check(rt, tree.is_empty(), "an empty tree", 0);
     fill_example(rt, alloc, &mut tree, steps)?;
-    assert!(rt; !tree.is_empty());
-    assert!(rt; tree.cut(2000, 4, steps).is_none());
+    check(rt, !tree.is_empty(), "a tree with rows", 0);
+    check(rt, tree.cut(2000, 4, steps).is_none(), "no such row", 2000);
     look_up_example(rt, &tree, steps);
     Ok(())
 }
@@ -153,6 +174,19 @@ fn is_in_range(
     }
 }
 
+/// Whether what was found is the pair with the least entry in this range of caps.
+fn is_least(pairs: &[(u32, u32)], found: Pair, start: u32, end: u32) -> bool {
+    is_in_range(pairs, found, start, end, least_between(pairs, start, end))
+}
+
+/// Whether what was found is the pair with the least entry at the greatest cap below a value.
+fn is_highest_below(pairs: &[(u32, u32)], found: Pair, value: u32) -> bool {
+    match greatest_below(pairs, value) {
+        None => found.is_none(),
+        Some(cap) => is_least(pairs, found, cap, cap.saturating_add(1)),
+    }
+}
+
 fn compare_look_ups<L: Ledger>(
     rt: &impl Abort,
     tree: &LimitTree,
@@ -162,33 +196,12 @@ fn compare_look_ups<L: Ledger>(
 )
     requires { value < 1000 }
 {
-    let at = least_between(pairs, value, value + 1);
-    assert!(rt;
-        is_in_range(pairs, tree.first_at(value, steps), value, value + 1, at),
-        "at {value}"
-    );
-    let above = least_between(pairs, value + 1, u32::MAX);
-    assert!(rt;
-        is_in_range(
-            pairs,
-            tree.first_above(value, steps),
-            value + 1,
-            u32::MAX,
-            above
-        ),
-        "above {value}"
-    );
-    let found = tree.highest_below(value, steps);
-    match greatest_below(pairs, value) {
-        None => assert_eq!(rt; found, None, "below {value}"),
-        Some(cap) => {
-            let least = least_between(pairs, cap, cap.saturating_add(1));
-            assert!(rt;
-                is_in_range(pairs, found, cap, cap.saturating_add(1), least),
-                "below {value}"
-            );
-        }
-    }
+    let at = is_least(pairs, tree.first_at(value, steps), value, value + 1);
+    check(rt, at, "the first", value);
+    let above = is_least(pairs, tree.first_above(value, steps), value + 1, u32::MAX);
+    check(rt, above, "the first above", value);
+    let below = is_highest_below(pairs, tree.highest_below(value, steps), value);
+    check(rt, below, "the highest below", value);
 }
 
 /// Whether what was cut is the row of this cap and entry.
@@ -199,41 +212,93 @@ fn is_cut(found: Option<Box<Node>>, cap: u32, entry: u32) -> bool {
     }
 }
 
+/// A tree, and the plain list of its pairs.
+#[derive(Drop)]
+struct Both {
+    tree: LimitTree,
+    pairs: Vec<(u32, u32)>,
+}
+
+/// A row that is in neither enters both.
+fn enter_both<L: Ledger>(
+    rt: &impl Abort,
+    both: &mut Both,
+    node: Box<Node>,
+    steps: &mut Steps<L>,
+) -> Result<(), AllocError>
+    requires { IsLeaf node.value }
+{
+    both.pairs.push((node.row.cap, node.row.entry))?;
+    enter(rt, &mut both.tree, node, steps);
+    Ok(())
+}
+
+/// The row of this cap and entry leaves both; its pair stands at this place of the list.
+fn cut_both<L: Ledger>(
+    rt: &impl Abort,
+    both: &mut Both,
+    cap: u32,
+    entry: u32,
+    at: usize,
+    steps: &mut Steps<L>,
+) {
+    check(
+        rt,
+        is_cut(both.tree.cut(cap, entry, steps), cap, entry),
+        "a row is cut",
+        cap,
+    );
+    if at < both.pairs.len() {
+        both.pairs.swap_remove(at);
+    }
+}
+
+/// A row enters, or one leaves that is held or is not.
+fn change_both<L: Ledger>(
+    rt: &impl Abort,
+    alloc: Global,
+    both: &mut Both,
+    random: &mut Random,
+    round: u32,
+    steps: &mut Steps<L>,
+) -> Result<(), AllocError> {
+    let cap = random.below(90);
+    let entry = random.below(90);
+    let held = both.tree.holds(cap, entry, steps);
+    let place = place(both.pairs.as_slice(), cap, entry);
+    check(rt, held == place.is_some(), "whether a row is held", cap);
+    match place {
+        None if random.below(4) == 0 => {
+            check(
+                rt,
+                both.tree.cut(cap, entry, steps).is_none(),
+                "no row to cut",
+                cap,
+            );
+        }
+        None => enter_both(rt, both, boxed(alloc, cap, entry)?, steps)?,
+        Some(at) if round % 3 == 0 => cut_both(rt, both, cap, entry, at, steps),
+        Some(_) => {}
+    }
+    Ok(())
+}
+
 fn compare_many<L: Ledger>(
     rt: &impl Abort,
     alloc: Global,
     steps: &mut Steps<L>,
 ) -> Result<(), AllocError> {
     let mut random = Random(5);
-    let mut tree = LimitTree::new();
-    let mut pairs: Vec<(u32, u32)> = Vec::new(alloc);
-    for round in 0..6000 {
-        let cap = random.below(90);
-        let entry = random.below(90);
-        let held = tree.holds(cap, entry, steps);
-        match place(pairs.as_slice(), cap, entry) {
-            None => {
-                assert!(rt; !held);
-                if random.below(4) == 0 {
-                    assert!(rt; tree.cut(cap, entry, steps).is_none());
-                } else if !held {
-                    tree.put(boxed(alloc, cap, entry)?, steps);
-                    pairs.push((cap, entry))?;
-                }
-            }
-            Some(at) => {
-                assert!(rt; held);
-                if round % 3 == 0 {
-                    assert!(rt; is_cut(tree.cut(cap, entry, steps), cap, entry));
-                    if at < pairs.len() {
-                        pairs.swap_remove(at);
-                    }
-                }
-            }
-        }
-        compare_look_ups(rt, &tree, pairs.as_slice(), random.below(92), steps);
+    let mut both = Both {
+        tree: LimitTree::new(),
+        pairs: Vec::new(alloc),
+    };
+    for round in 0..6000u32 {
+        change_both(rt, alloc, &mut both, &mut random, round, steps)?;
+        let value = random.below(92);
+        compare_look_ups(rt, &both.tree, both.pairs.as_slice(), value, steps);
     }
-    assert!(rt; 2000 < pairs.len());
+    check(rt, 2000 < both.pairs.len(), "many rows", 6000);
     Ok(())
 }
 
@@ -253,12 +318,18 @@ fn look_ups_answer_as_a_plain_list(rt: HostRuntime) -> Result<(), Fail> {
     Ok(())
 }
 
+/// A row of 100 shares, of which these were traded in its node, if there are so many.
+fn row_behind_trade(shares: u32) -> Row {
+    let mut node = leaf(row(2000, 5));
+    if shares <= node.row.leaves {
+        fill(&mut node, shares);
+    }
+    node.row
+}
+
 #[test]
 fn shares_of_a_row_are_traded_in_its_node(rt: HostRuntime) {
-    let mut node = leaf(row(2000, 5));
-    if node.row.leaves >= 30 {
-        fill(&mut node, 30);
-    }
-    assert_eq!(rt; node.row.leaves, 70);
-    assert!(rt; node.row.traded);
+    let row = row_behind_trade(30);
+    check(&rt, row.leaves == 70, "shares left", row.leaves);
+    check(&rt, row.traded, "shares were traded", 30);
 }
