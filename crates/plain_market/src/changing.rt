@@ -1,10 +1,14 @@
 //! How a live order is canceled or replaced.
-ghost use Rattle.std.specs.Prelude.{◌≡◌, [], ◌∷◌, IfOk, map};
+ghost use Rattle.std.specs.Prelude.{◌≡◌, [], ◌∷◌, Some, IfOk, map};
 ghost use Rattle.venue_words.specs.Conditions.{IsTick};
 ghost use Rattle.eager_meaning.specs.Floor.{same_method};
 ghost use Rattle.eager_meaning.specs.Orders.{changed_at};
+ghost use Rattle.eager_meaning.specs.Showing.{view_closed, view_of};
+ghost use Rattle.eager_meaning.specs.State.{with_used};
+ghost use Rattle.venue_words.specs.declared.report.Kind.TheVariants.{Order as OrderReport};
+ghost use Rattle.venue_words.specs.declared.report.Execution.TheVariants.{Canceled, Replaced};
 ghost use Rattle.eager_meaning.specs.Entering.{enter};
-ghost use Rattle.eager_meaning.specs.Changing.{named_order, refusal, without, cancel, on_cancel, replaced_order, with_replaced, only_lowers, with_leaves, resize, arrival_of_replace, on_replace};
+ghost use Rattle.eager_meaning.specs.Changing.{named_order, refusal, without, without_row, cancel, on_cancel, replaced_order, with_replaced, only_lowers, with_leaves, resize, arrival_of_replace, on_replace};
 
 use crate::notices::one_notice;
 use crate::plain::Plain;
@@ -43,6 +47,32 @@ fn refusal(
         order: live.as_ref().map(named_order),
         request,
         rule,
+    })
+}
+
+/// What is told of an order that a Cancel takes out: it has the id of the Cancel.
+fn canceled(alloc: Global, id: &Bytes, orig: &Bytes, order: &Order) -> Result<Kind, AllocError>
+    ensures { IfOk result (λ kind. kind
+        ≡ OrderReport (record (view_closed order.now) { id = id.now }) (Canceled (Some orig.now))) }
+{
+    let mut view = view_closed(alloc, order)?;
+    view.id = Bytes::copy_of(alloc, id.as_slice())?;
+    let orig = Bytes::copy_of(alloc, orig.as_slice())?;
+    Ok(Kind::Order {
+        view,
+        execution: Execution::Canceled { orig: Some(orig) },
+    })
+}
+
+/// What is told of a replaced order with its row.
+fn replaced(alloc: Global, orig: &Bytes, order: &Order, x: Priced) -> Result<Kind, AllocError>
+    ensures { IfOk result (λ kind. kind ≡ OrderReport (view_of order.now (Some x)) (Replaced orig.now)) }
+{
+    let view = view_of(alloc, order, Some(x))?;
+    let orig = Bytes::copy_of(alloc, orig.as_slice())?;
+    Ok(Kind::Order {
+        view,
+        execution: Execution::Replaced { orig },
     })
 }
 
@@ -157,6 +187,29 @@ fn only_lowers(tick: u32, terms: &Terms, live: &Live) -> bool
 }
 
 impl Plain {
+    /// The member used up an id.
+    pub(crate) fn use_id(
+        &mut self,
+        alloc: Global,
+        member: u32,
+        id: &Bytes,
+    ) -> Result<(), AllocError>
+        ensures { IfOk result (λ _. self.new ≡ with_used member id.now self.old) }
+    {
+        let copy = Bytes::copy_of(alloc, id.as_slice())?;
+        self.used.push((member, copy))?;
+        Ok(())
+    }
+
+    /// A row leaves.
+    fn take_row(&mut self, alloc: Global, x: Priced) -> Result<(), AllocError>
+        ensures { IfOk result (λ _. self.new ≡ without_row x self.old) }
+    {
+        self.buys = without(alloc, x.row.entry, &self.buys)?;
+        self.sells = without(alloc, x.row.entry, &self.sells)?;
+        Ok(())
+    }
+
     /// A live order leaves.
     #[tactic(auto, unfolding(eager_meaning::specs::Changing::cancel))]
     fn cancel(
@@ -171,21 +224,10 @@ impl Plain {
         ensures notices { IfOk result (λ notices. notices.items
             ≡ (cancel member id.now orig.now live.now self.old).notices) }
     {
-        let mut view = view_closed(alloc, &live.order)?;
-        view.id = Bytes::copy_of(alloc, id.as_slice())?;
-        let orig = Bytes::copy_of(alloc, orig.as_slice())?;
-        let copy = Bytes::copy_of(alloc, id.as_slice())?;
-        self.used.push((member, copy))?;
-        self.buys = without(alloc, live.row.row.entry, &self.buys)?;
-        self.sells = without(alloc, live.row.row.entry, &self.sells)?;
-        one_notice(
-            alloc,
-            member,
-            Kind::Order {
-                view,
-                execution: Execution::Canceled { orig: Some(orig) },
-            },
-        )
+        let kind = canceled(alloc, id, orig, &live.order)?;
+        self.use_id(alloc, member, id)?;
+        self.take_row(alloc, live.row)?;
+        one_notice(alloc, member, kind)
     }
 
     /// A Cancel, with the live order that it names and the rule that it breaks, or none.
@@ -213,6 +255,22 @@ impl Plain {
         }
     }
 
+    /// An order has the terms of a replace.
+    fn set_order(
+        &mut self,
+        alloc: Global,
+        tick: u32,
+        id: &Bytes,
+        terms: &Terms,
+        number: u32,
+    ) -> Result<(), AllocError>
+        requires { IsTick tick }
+        ensures { IfOk result (λ _. self.new
+            ≡ record self.old { orders = changed_at (replaced_order tick id.now terms.now) number self.old.orders }) }
+    {
+        replace_order(alloc, tick, id, terms, &mut self.orders, number)
+    }
+
     /// The state after a replace of a live order, but for its row.
     fn set_terms(
         &mut self,
@@ -226,10 +284,8 @@ impl Plain {
         requires { IsTick tick }
         ensures { IfOk result (λ _. self.new ≡ with_replaced tick member id.now terms.now live.now self.old) }
     {
-        replace_order(alloc, tick, id, terms, &mut self.orders, live.number)?;
-        let copy = Bytes::copy_of(alloc, id.as_slice())?;
-        self.used.push((member, copy))?;
-        Ok(())
+        self.set_order(alloc, tick, id, terms, live.number)?;
+        self.use_id(alloc, member, id)
     }
 
     /// The quantity of a live order changes.
@@ -253,19 +309,11 @@ impl Plain {
         let order = replaced_order(alloc, tick, id, terms, &live.order)?;
         let leaves = order.quantity.saturating_sub(order.cum);
         let entry = live.row.row.entry;
-        let view = view_of(alloc, &order, Some(live.row))?;
-        let orig = Bytes::copy_of(alloc, orig.as_slice())?;
+        let kind = replaced(alloc, orig, &order, live.row)?;
         self.set_terms(alloc, tick, member, id, terms, live)?;
         self.buys = all_with_leaves(alloc, entry, leaves, &self.buys)?;
         self.sells = all_with_leaves(alloc, entry, leaves, &self.sells)?;
-        one_notice(
-            alloc,
-            member,
-            Kind::Order {
-                view,
-                execution: Execution::Replaced { orig },
-            },
-        )
+        one_notice(alloc, member, kind)
     }
 
     /// A live order leaves and enters anew.
@@ -289,23 +337,10 @@ impl Plain {
     {
         let x = self.priced_now(row_of(tick, event, live.number, member, live.order.cum, terms));
         let order = replaced_order(alloc, tick, id, terms, &live.order)?;
-        let view = view_of(alloc, &order, Some(x))?;
-        let orig = Bytes::copy_of(alloc, orig.as_slice())?;
+        let kind = replaced(alloc, orig, &order, x)?;
         self.set_terms(alloc, tick, member, id, terms, live)?;
-        self.buys = without(alloc, live.row.row.entry, &self.buys)?;
-        self.sells = without(alloc, live.row.row.entry, &self.sells)?;
-        self.enter(
-            alloc,
-            x,
-            is_immediate(terms),
-            Notice {
-                member,
-                kind: Kind::Order {
-                    view,
-                    execution: Execution::Replaced { orig },
-                },
-            },
-        )
+        self.take_row(alloc, live.row)?;
+        self.enter(alloc, x, is_immediate(terms), Notice { member, kind })
     }
 
     /// A Replace, with the live order that it names and the rule that it breaks, or none.

@@ -208,9 +208,7 @@ impl Plain {
         ensures { IfOk result (λ _. self.new ≡ with_accepted member id.now order self.old) }
     {
         self.orders.push(order)?;
-        let copy = Bytes::copy_of(alloc, id.as_slice())?;
-        self.used.push((member, copy))?;
-        Ok(())
+        self.use_id(alloc, member, id)
     }
 
     /// An order is accepted and enters.

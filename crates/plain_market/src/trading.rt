@@ -1,5 +1,5 @@
 //! What trades make of the orders, and what the two orders of each are told.
-ghost use Rattle.std.specs.Prelude.{◌≡◌, ◌++◌, IfOk};
+ghost use Rattle.std.specs.Prelude.{◌≡◌, ◌++◌, ◌+◌, ◌*◌, IfOk};
 ghost use Rattle.eager_meaning.specs.Orders.{changed_at};
 ghost use Rattle.eager_meaning.specs.Trades.{order_after, orders_after, orders_after_all, trade_notice, trade_notices};
 
@@ -8,17 +8,35 @@ use eager_meaning::{Fill, Notice, Order, Party};
 use std::alloc::{AllocError, Global};
 use venue_words::{Execution, Kind};
 
-/// A trade is added to an order. A sum that does not fit is answered as want of memory.
+/// What the shares of a trade are worth.
+fn worth_of(fill: Fill) -> u64
+    ensures { result ≡ fill.price * fill.quantity }
+{
+    u64::from(fill.price) * u64::from(fill.quantity)
+}
+
+/// The shares of an order behind a trade, and what they are worth. A sum that does not fit is answered as want of memory.
+fn sums_after(order: &Order, fill: Fill) -> Result<(u32, u64), AllocError>
+    ensures { IfOk result (λ sums. (sums.0 ≡ order.now.cum + fill.quantity)
+        × (sums.1 ≡ order.now.notional + fill.price * fill.quantity)) }
+{
+    let cum = order.cum.checked_add(fill.quantity).ok_or(AllocError)?;
+    let notional = order
+        .notional
+        .checked_add(worth_of(fill))
+        .ok_or(AllocError)?;
+    Ok((cum, notional))
+}
+
+/// A trade is added to an order.
 #[tactic(auto, unfolding(eager_meaning::specs::Trades::order_after))]
 fn add_trade(orders: &mut Vec<Order>, number: u32, fill: Fill) -> Result<(), AllocError>
     ensures { IfOk result (λ _. orders.new.items ≡ changed_at (order_after fill) number orders.old.items) }
 {
     let k = number as usize;
     if k < orders.len() {
+        let (cum, notional) = sums_after(&orders[k], fill)?;
         let order = &mut orders[k];
-        let cum = order.cum.checked_add(fill.quantity).ok_or(AllocError)?;
-        let worth = u64::from(fill.price) * u64::from(fill.quantity);
-        let notional = order.notional.checked_add(worth).ok_or(AllocError)?;
         order.cum = cum;
         order.notional = notional;
     }
