@@ -6,7 +6,9 @@ ghost use Rattle.venue_words.specs.Journals.{reports_of};
 ghost use Rattle.venue_core.specs.ConfigVenues.{IsFloorOf};
 ghost use Rattle.venue_core.specs.Runs.{run_in};
 
-use super::venues::{command, config_of};
+use super::checks::check;
+use super::configs::config_of;
+use super::venues::command;
 use std::alloc::{AllocError, Global};
 use std::marker::Brand;
 use std::process::Abort;
@@ -102,8 +104,12 @@ fn look_on_both<R: Wait>(
 }
 
 fn check_look<R: Abort>(rt: &R, look: &Look) {
-    assert_eq!(rt; look.front, 1);
-    assert_eq!(rt; look.reports.len(), 1);
+    check(
+        rt,
+        look.front == 1 && look.reports.len() == 1,
+        "a look",
+        look.front,
+    );
 }
 
 #[test]

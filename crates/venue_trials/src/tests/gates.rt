@@ -5,6 +5,7 @@ ghost use Rattle.turn_gate.specs.Rule.{whole};
 
 mod journal;
 
+use super::checks::check;
 use journal::Journal;
 use std::alloc::{AllocError, Global};
 use std::marker::Brand;
@@ -176,6 +177,28 @@ fn is_next(next: &mut [u32], event: &Event) -> bool {
     }
 }
 
+// Finds the commands from 0 to below `count` of each of `many + 1` feeds once and in their order.
+fn check_events<R: Abort>(
+    rt: &R,
+    alloc: Global,
+    events: &[Event],
+    many: u32,
+    count: u32,
+) -> Result<(), AllocError>
+    requires many { many < 1000 }
+{
+    let mut next = vec![in alloc; 0u32; many as usize + 1]?;
+    let mut number = 0u32;
+    for event in events {
+        number = number.saturating_add(1);
+        let is_right = event.number == number && is_next(&mut next, event);
+        check(rt, is_right, "an event", number);
+    }
+    let is_all = next.iter().all(|&submitted| submitted == count);
+    check(rt, is_all, "the commands of all feeds", number);
+    Ok(())
+}
+
 // Makes a gate over a journal with just room for all commands, submits them from many threads, and finds
 // the commands of each seat once and in their order in the one journal.
 fn submits_from<R: Threads + Wait + Abort + Sync>(
@@ -192,15 +215,14 @@ fn submits_from<R: Threads + Wait + Abort + Sync>(
         return Err(AllocError);
     };
     let (journal, recorded) = run(rt, alloc, gate, seat, many, count)?;
-    assert_eq!(rt; recorded, u64::from(all));
-    let mut next = vec![in alloc; 0u32; many as usize + 1]?;
-    assert_eq!(rt; journal.events().len(), all as usize);
-    for (index, event) in journal.events().iter().enumerate() {
-        assert_eq!(rt; event.number as usize, index + 1);
-        assert!(rt; is_next(&mut next, event), "event {}", event.number);
-    }
-    assert!(rt; next.iter().all(|&submitted| submitted == count));
-    Ok(())
+    check(rt, recorded == u64::from(all), "the recorded commands", all);
+    check(
+        rt,
+        journal.events().len() == all as usize,
+        "the events",
+        all,
+    );
+    check_events(rt, alloc, journal.events(), many, count)
 }
 
 #[test]
@@ -216,6 +238,7 @@ fn sixty_four_seats_get_on(rt: HostRuntime) -> Result<(), Fail> {
 }
 
 // What three submits and a look answered.
+#[derive(Drop)]
 struct Answers {
     submits: [Result<u32, FloorRefusal>; 3],
     look: Result<Look, NoMemory>,
@@ -247,22 +270,23 @@ fn answers_of<R: Wait>(rt: &R, gate: &Gate<Journal>, seat: &mut Seat) -> Answers
     submit_and_look::<R, Brand>(rt, gate, seat, Blank::new(1))
 }
 
+// The third submit finds no room, and the look shows the report behind the first.
+fn are_right(answers: &Answers) -> bool {
+    let Ok(look) = &answers.look else {
+        return false;
+    };
+    answers.submits == [Ok(1), Ok(2), Err(FloorRefusal::Full { found: 2 })]
+        && look.front == 2
+        && look.reports.len() == 1
+        && look.reports.as_slice()[0].event == 2
+}
+
 #[test]
 fn a_full_journal_refuses_and_still_shows_its_reports(rt: HostRuntime) -> Result<(), Fail> {
     let Ok((gate, mut seat)) = Gate::make(rt.alloc(), Journal::new(rt.alloc(), 2)) else {
         return Err(AllocError.into());
     };
-    let Answers { submits, look } = answers_of(&rt, &gate, &mut seat);
-    assert_eq!(rt;
-        submits,
-        [Ok(1), Ok(2), Err(FloorRefusal::Full { found: 2 })]
-    );
-    let look = look.map_err(|_| AllocError)?;
-    assert_eq!(rt; look.front, 2);
-    assert_eq!(rt; look.reports.len(), 1);
-    assert_eq!(rt;
-        look.reports.as_slice().first().map(|report| report.event),
-        Some(2)
-    );
+    let answers = answers_of(&rt, &gate, &mut seat);
+    check(&rt, are_right(&answers), "three submits and a look", 2);
     Ok(())
 }

@@ -1,12 +1,14 @@
 //! Venues of books, and threads that submit through them.
-ghost use Rattle.std.specs.Prelude.{◌≡◌, ◌+◌, ◌-◌, ◌<◌, ◌≤◌, ◌∷◌, [], true, length, slice_index, IfOk, OnOk};
+ghost use Rattle.std.specs.Prelude.{◌≡◌, ◌-◌, ◌<◌, ◌≤◌, true, length, IfOk, OnOk};
 ghost use Rattle.std.specs.List.{All};
-ghost use Rattle.venue_words.specs.Conditions.{IsConfig, IsEventLimit, IsTick, fits_limits};
+ghost use Rattle.venue_words.specs.Conditions.{IsConfig, fits_limits};
 ghost use Rattle.venue_words.specs.Floors.{Setup, is_configured};
 ghost use Rattle.turn_gate.specs.Rule.{whole};
 ghost use Rattle.venue_core.specs.Joining.{HaveParts};
 ghost use Rattle.venue_core.specs.Venues.{AreSeatsOf};
 
+use super::checks::check;
+use super::configs::config_of;
 use plain_market::plain_run;
 use std::alloc::{AllocError, Global};
 use std::marker::Brand;
@@ -16,11 +18,8 @@ use std::sync::ledger::{Blank, Ledger};
 use std::test::Fail;
 use std::thread::{Threads, map_vec};
 use symbol_book::{Book, HashSeed};
-use venue_core::{PlainVenue, Seated, Seats, Venue, make, plain};
-use venue_words::{
-    Bytes, Command, Config, Event, Floor, FloorRefusal, Held, Items, Look, NoMemory, Report, Steps,
-    Terms,
-};
+use venue_core::{Seated, Seats, Venue, make};
+use venue_words::{Bytes, Command, Config, Event, Floor, Held, NoMemory, Report, Steps, Terms};
 
 // A floor, and the feed whose commands go through it.
 #[derive(Drop)]
@@ -75,7 +74,7 @@ pub fn command(alloc: Global, feed: u32, number: u32) -> Result<Command, AllocEr
     })
 }
 
-fn quote(bid: u32, offer: u32) -> Command
+pub fn quote(bid: u32, offer: u32) -> Command
     requires bid { (0 < bid) × (bid < 10000) }
     requires offer { (0 < offer) × (offer < 10000) }
     ensures configured { (setup : Setup) → 0 < setup.markets → is_configured setup result ≡ true }
@@ -90,7 +89,7 @@ fn quote(bid: u32, offer: u32) -> Command
 
 // Submits the commands from 0 to below `count`, to each of three symbols in turn, each at its number for a
 // moment. It answers how many were recorded up to the last that was.
-fn submit_all<F: Floor, L: Ledger>(
+pub fn submit_all<F: Floor, L: Ledger>(
     alloc: Global,
     floor: &mut F,
     feed: u32,
@@ -269,38 +268,6 @@ fn run<R: Threads + Wait + Sync, V: Held + Drop + Send>(
     }
 }
 
-fn names_of(alloc: Global, first: u8, second: u8, third: u8) -> Result<Items<Bytes>, AllocError>
-    ensures { IfOk result (λ names. names ≡ (first ∷ []) ∷ (second ∷ []) ∷ (third ∷ []) ∷ []) }
-{
-    let mut names = Items::new(alloc);
-    names.push(Bytes::copy_of(alloc, &[first])?)?;
-    names.push(Bytes::copy_of(alloc, &[second])?)?;
-    names.push(Bytes::copy_of(alloc, &[third])?)?;
-    Ok(names)
-}
-
-// A config of four members, one market and three symbols with the same limit, of which the second has a tick of 0.05.
-pub fn config_of(alloc: Global, limit: u32) -> Result<Config, AllocError>
-    requires { IsEventLimit limit }
-    ensures config { IfOk result IsConfig }
-    ensures members { IfOk result (λ config. length config.members ≡ 4) }
-    ensures markets { IfOk result (λ config. length config.markets ≡ 1) }
-    ensures symbols { IfOk result (λ config. length config.limits ≡ 3) }
-{
-    let mut members = names_of(alloc, b'A', b'B', b'C')?;
-    members.push(Bytes::copy_of(alloc, b"D")?)?;
-    let mut markets = Items::new(alloc);
-    markets.push(Bytes::copy_of(alloc, b"N")?)?;
-    Ok(Config {
-        members,
-        markets,
-        symbols: names_of(alloc, b'X', b'Y', b'Z')?,
-        limits: Items(vec![in alloc; limit, limit, limit]?),
-        ticks: Items(vec![in alloc; 2, 10, 2]?),
-        begin: 0,
-    })
-}
-
 // Whether the event is the next command of its feed at its symbol, of which `next` has the moments.
 fn is_next(next: &mut [i64], event: &Event) -> bool {
     match next.get_mut((event.feed as usize).wrapping_sub(1)) {
@@ -323,9 +290,24 @@ fn text_of(alloc: Global, reports: &[Report]) -> Result<String, AllocError> {
     Ok(text)
 }
 
+fn have_same_text(alloc: Global, some: &[Report], others: &[Report]) -> Result<bool, AllocError> {
+    let text = text_of(alloc, some)?;
+    Ok(text.as_str() == text_of(alloc, others)?.as_str())
+}
+
+// Finds the commands of each feed, of which `next` has the moments, once and in their order.
+fn check_events<R: Abort>(rt: &R, events: &[Event], next: &mut [i64]) {
+    let mut number = 0u32;
+    for event in events {
+        number = number.saturating_add(1);
+        let is_right = event.number == number && is_next(next, event);
+        check(rt, is_right, "an event", number);
+    }
+}
+
 // Finds the commands of each feed once and in their order in the symbol's book, and that its reports are those of its
 // journal by the plain program.
-fn check_book<R: Abort>(
+pub fn check_book<R: Abort>(
     rt: &R,
     alloc: Global,
     config: &Config,
@@ -337,79 +319,56 @@ fn check_book<R: Abort>(
     requires symbol { symbol < length config.now.limits }
 {
     let mut next = vec![in alloc; i64::from(symbol); many as usize]?;
-    for (index, event) in book.journal().iter().enumerate() {
-        assert_eq!(rt; event.number as usize, index.saturating_add(1));
-        assert!(rt; is_next(&mut next, event), "event {}", event.number);
-    }
-    let wanted = text_of(alloc, &plain_run(alloc, config, symbol, book.journal())?)?;
-    let found = text_of(alloc, book.reports())?;
-    assert_eq!(rt; found.as_str(), wanted.as_str(), "symbol {symbol}");
+    check_events(rt, book.journal(), &mut next);
+    let wanted = plain_run(alloc, config, symbol, book.journal())?;
+    let is_same = have_same_text(alloc, book.reports(), &wanted)?;
+    check(rt, is_same, "the reports of a symbol", symbol);
     Ok(())
+}
+
+// What four threads leave that submit a thousand commands each.
+fn run_threads<R: Threads + Wait + Sync>(
+    rt: &R,
+    alloc: Global,
+    config: &Config,
+) -> Result<(Vec<Book>, u64), NoMemory>
+    requires config { IsConfig config.now }
+    requires members { length config.now.members ≡ 4 }
+    requires markets { length config.now.markets ≡ 1 }
+    requires symbols { length config.now.limits ≡ 3 }
+{
+    let (venue, seats) = make(alloc, HashSeed::fixed(), config)?;
+    run(rt, alloc, venue, seats, 4, 1000)
+}
+
+// Checks the books of the three symbols, with four feeds, and counts their events.
+fn check_books<R: Abort>(
+    rt: &R,
+    alloc: Global,
+    config: &Config,
+    books: &[Book],
+) -> Result<usize, Fail>
+    requires config { IsConfig config.now }
+    requires symbols { length config.now.limits ≡ 3 }
+{
+    let mut events = 0usize;
+    for symbol in 0..3 {
+        if let Some(book) = books.get(symbol as usize) {
+            check_book(rt, alloc, config, symbol, book, 4)?;
+            events = events.saturating_add(book.journal().len());
+        }
+    }
+    Ok(events)
 }
 
 #[test]
 fn four_threads_stand_in_three_journals(rt: HostRuntime) -> Result<(), Fail> {
     let alloc = rt.alloc();
     let config = config_of(alloc, 1336)?;
-    let (venue, seats) = make(alloc, HashSeed::fixed(), &config)?;
-    let (books, recorded) = run(&rt, alloc, venue, seats, 4, 1000)?;
-    assert_eq!(rt; recorded, 4000);
-    assert_eq!(rt; books.len(), 3);
-    let mut events = 0;
-    for symbol in 0..3 {
-        if let Some(book) = books.get(symbol as usize) {
-            check_book(&rt, alloc, &config, symbol, book, 4)?;
-            events = book.journal().len().saturating_add(events);
-        }
-    }
-    assert_eq!(rt; events, 4000);
-    Ok(())
-}
-
-// What a venue for one thread holds after 45 commands, where each book takes ten.
-struct Filled {
-    venue: PlainVenue<Book>,
-    last: Result<u32, FloorRefusal>,
-    look: Result<Look, NoMemory>,
-}
-
-fn fill_counted<L: Ledger>(alloc: Global, mut venue: PlainVenue<Book>, blank: Blank) -> Filled
-    requires symbols { length venue.books ≡ 3 }
-    requires members { 4 ≤ venue.members }
-    requires markets { 0 < venue.markets }
-    requires blank { (blank.name ≡ L.name) × (blank.parts ≡ L.parts) × (L.parts ≡ 1) }
-    ensures { length result.venue.books ≡ 3 }
-{
-    let mut steps: Steps<L> = Steps::start(blank);
-    submit_all(alloc, &mut venue, 1, 45, &mut steps);
-    let last = venue.submit(2, 1, 45, &quote(1000, 1001), &mut steps);
-    let look = venue.reports_after(1, 1, 0);
-    Filled { venue, last, look }
-}
-
-fn fill(alloc: Global, venue: PlainVenue<Book>) -> Filled
-    requires symbols { length venue.books ≡ 3 }
-    requires members { 4 ≤ venue.members }
-    requires markets { 0 < venue.markets }
-    ensures { length result.venue.books ≡ 3 }
-{
-    fill_counted::<Brand>(alloc, venue, Blank::new(1))
-}
-
-#[test]
-fn full_books_refuse_and_still_show_their_reports(rt: HostRuntime) -> Result<(), Fail> {
-    let alloc = rt.alloc();
-    let config = config_of(alloc, 10)?;
-    let venue = plain(alloc, HashSeed::fixed(), &config)?;
-    let Filled { venue, last, look } = fill(alloc, venue);
-    assert_eq!(rt; last, Err(FloorRefusal::Full { found: 10 }));
-    for symbol in 0..3 {
-        let book = venue.book(symbol);
-        check_book(&rt, alloc, &config, symbol, book, 1)?;
-        assert_eq!(rt; book.journal().len(), 10);
-    }
-    let look = look?;
-    assert_eq!(rt; look.front as usize, venue.book(1).reports().len());
-    assert_eq!(rt; look.reports.len(), venue.book(1).reports().len());
+    let (books, recorded) = run_threads(&rt, alloc, &config)?;
+    check(&rt, recorded == 4000, "the recorded commands", 4000);
+    check(&rt, books.len() == 3, "the books", 3);
+    let events = check_books(&rt, alloc, &config, &books)?;
+    check(&rt, events == 4000, "the events", 4000);
     Ok(())
 }
