@@ -18,17 +18,23 @@ struct PartText {
 }
 
 impl Sink for PartText {
-    ghost use Rattle.std.specs.Prelude.{Some};
+    ghost use Rattle.std.specs.Prelude.{[], Some};
 
     ghost faults = { λ text. text.faults };
 
     ghost told = { λ text. Some text.bytes.items };
+
+    ghost waiting = { λ _. [] };
 
     fn put(&mut self, piece: &[u8]) -> Result<(), Failed> {
         if self.bytes.extend_from_slice(piece).is_err() {
             self.faults = self.faults.saturating_add(1);
             return Err(Failed);
         }
+        Ok(())
+    }
+
+    fn flush(&mut self) -> Result<(), Failed> {
         Ok(())
     }
 }

@@ -1,5 +1,5 @@
 //! The trusted edge: real files and streams. Nothing is claimed of what they hold.
-ghost use Rattle.std.specs.Prelude.{◌≡◌, ◌≤◌, ◌<◌, ℕ, None, false, length, is_some, IfOk};
+ghost use Rattle.std.specs.Prelude.{◌≡◌, ◌≤◌, ◌<◌, ℕ, [], None, false, length, is_some, IfOk};
 ghost use Rattle.venue_words.specs.Causes.{HasCause, Rose};
 
 use crate::edge::{Failed, Shelf, Sink};
@@ -68,7 +68,7 @@ impl<'a, R: Files> Shelf for FileShelf<'a, R> {
     }
 }
 
-/// A stream of the system. It tells nothing of what it has.
+/// A stream of the system, to which each piece is written at once. It tells nothing of what it has.
 #[derive(Drop)]
 pub struct StreamSink<W: Write> {
     inner: W,
@@ -101,11 +101,17 @@ impl<W: Write> Sink for StreamSink<W> {
 
     ghost told = { λ _. None };
 
+    ghost waiting = { λ _. [] };
+
     fn put(&mut self, piece: &[u8]) -> Result<(), Failed> {
         let mut done = 0usize;
         while done < piece.len() {
             done += self.put_some(&piece[done..])?;
         }
+        Ok(())
+    }
+
+    fn flush(&mut self) -> Result<(), Failed> {
         Ok(())
     }
 }

@@ -1,5 +1,5 @@
 //! The outside as the cores see it: files that are read, and streams that are written.
-ghost use Rattle.std.specs.Prelude.{◌≡◌, ◌<◌, ◌≤◌, ℕ, ◌⊎◌, Bool, List, Option, length, IsTrue, IsOk, IsSome, OnOk, OnErr, IfOk, None, ⊤};
+ghost use Rattle.std.specs.Prelude.{◌≡◌, ◌<◌, ◌≤◌, ℕ, ◌⊎◌, Bool, List, Option, [], length, IsTrue, IsOk, IsSome, OnOk, OnErr, IfOk, None, ⊤};
 ghost use Rattle.std.specs.Io.KnownBytes.{ReadConsumes};
 ghost use Rattle.venue_words.specs.Causes.{HasCause};
 ghost use Rattle.io_edge.specs.Files.{Files, HasFile, Opens, StaysSure};
@@ -55,11 +55,20 @@ pub trait Sink {
     /// How often a call has failed. The count never falls, and at its last value, 2^64 - 1, it counts as risen.
     ghost faults: { Self → ℕ };
 
-    /// The bytes that it has, where the sink tells them.
+    /// The bytes that it has, where the sink tells them; those that wait are among them.
     ghost told: { Self → Option (List ℕ) };
 
-    /// Appends the piece, or on a failure a prefix of it.
+    /// The bytes that were put and wait to be written.
+    ghost waiting: { Self → List ℕ };
+
+    /// Appends the piece, or on a failure a prefix of it. A failure may also lose bytes that waited.
     fn put(&mut self, piece: &[u8]) -> Result<(), Failed>
         ensures bytes { Puts (told self.old) (told self.new) result piece.now }
+        ensures cause { HasCause (faults self.old) (faults self.new) result };
+
+    /// Writes what waits. After a failure it is not known which of these bytes were written.
+    fn flush(&mut self) -> Result<(), Failed>
+        ensures told { told self.new ≡ told self.old }
+        ensures written { OnOk result (waiting self.new ≡ []) }
         ensures cause { HasCause (faults self.old) (faults self.new) result };
 }

@@ -232,12 +232,18 @@ impl Sink for MemSink {
 
     ghost told = { λ s. Some s.bytes.items };
 
+    ghost waiting = { λ _. [] };
+
     fn put(&mut self, piece: &[u8]) -> Result<(), Failed> {
         self.calls.call()?;
         if self.bytes.extend_from_slice(piece).is_err() {
             return Err(self.calls.fail());
         }
         Ok(())
+    }
+
+    fn flush(&mut self) -> Result<(), Failed> {
+        self.calls.call()
     }
 }
 
@@ -257,7 +263,13 @@ impl Sink for SureSink {
 
     ghost told = { λ _. None };
 
+    ghost waiting = { λ _. [] };
+
     fn put(&mut self, _piece: &[u8]) -> Result<(), Failed> {
+        Ok(())
+    }
+
+    fn flush(&mut self) -> Result<(), Failed> {
         Ok(())
     }
 }

@@ -6,6 +6,7 @@ pub mod LineByLine
 pub mod Turns
 pub mod Steps
 pub mod Outcomes
+pub mod Unwritten
 pub mod Loads
 pub mod LoadFrames
 pub mod LoadTexts

@@ -3,6 +3,7 @@
 
 mod asked;
 pub mod complete;
+pub mod flushing;
 pub mod laws;
 pub mod lines;
 pub mod loading;

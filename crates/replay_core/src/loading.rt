@@ -11,6 +11,7 @@ ghost use Rattle.replay_core.specs.Stages.{StandsFor};
 ghost use Rattle.replay_core.specs.Summary.{summary_of, summary_text};
 ghost use Rattle.replay_core.specs.Telling.{seen};
 
+use crate::flushing::flush_behind;
 use crate::lines::{script_line, work_line};
 use crate::phase::Phase;
 use crate::plain_floor::PlainFloor;
@@ -54,13 +55,14 @@ fn play_lines<F: PlainFloor, L: Ledger>(
     Ok(phase)
 }
 
-/// Puts the line that sums a player up.
+/// Puts the line that sums a player up, and writes it.
 fn put_summary<F: PlainFloor, K: Sink>(alloc: Global, player: &Player<F>, out: &mut K) -> Status
     ensures done { result ≡ Status.Done → (playing : Playing) → StandsFor F.at player.now playing
         → Appends (K.told out.old) (K.told out.new) (summary_text (summary_of playing)) }
     ensures early { result ≢ Status.Done → (playing : Playing) → StandsFor F.at player.now playing
         → AppendsPrefix (K.told out.old) (K.told out.new) (summary_text (summary_of playing)) }
     ensures status { ((result ≡ Status.Done) ⊎ (result ≡ Status.NoMemory)) ⊎ (result ≡ Status.WriteFault) }
+    ensures written { K.waiting out.old ≡ [] → result ≢ Status.WriteFault → K.waiting out.new ≡ [] }
     ensures later { K.faults out.old ≤ K.faults out.new }
     ensures write { result ≡ Status.WriteFault → Rose (K.faults out.old) (K.faults out.new) }
 {
@@ -68,7 +70,7 @@ fn put_summary<F: PlainFloor, K: Sink>(alloc: Global, player: &Player<F>, out: &
         return Status::NoMemory;
     };
     match out.put(text.as_bytes()) {
-        Ok(()) => Status::Done,
+        Ok(()) => flush_behind(Status::Done, out),
         Err(_) => Status::WriteFault,
     }
 }
@@ -84,6 +86,7 @@ pub fn play_load<F: PlainFloor, K: Sink, L: Ledger>(
     requires orders { orders ≤ most_load }
     requires quotes { quotes ≤ most_load }
     ensures ran { Loaded orders quotes (seen (K.told out.old) steps.old) (seen (K.told out.new) steps.new) result }
+    ensures written { K.waiting out.old ≡ [] → result ≢ Status.WriteFault → K.waiting out.new ≡ [] }
     ensures later { K.faults out.old ≤ K.faults out.new }
     ensures write { result ≡ Status.WriteFault → Rose (K.faults out.old) (K.faults out.new) }
 {

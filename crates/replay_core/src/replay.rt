@@ -1,5 +1,5 @@
 //! The top call.
-ghost use Rattle.std.specs.Prelude.{◌≡◌, ◌≢◌, ◌≤◌, ◌⊎◌, ℕ, List, None, Some, IfSome, IsNone, IsTrue};
+ghost use Rattle.std.specs.Prelude.{◌≡◌, ◌≢◌, ◌≤◌, ◌⊎◌, ℕ, List, [], None, Some, IfSome, IsNone, IsTrue};
 ghost use Rattle.venue_words.specs.Causes.{Rose};
 ghost use Rattle.io_edge.specs.Files.{HasFile, file_named};
 ghost use Rattle.program_words.specs.Words.{texts};
@@ -9,10 +9,10 @@ ghost use Rattle.replay_core.specs.Runs.{Ends};
 ghost use Rattle.replay_core.specs.Statuses.{IsTold, refusal_of};
 ghost use Rattle.replay_core.specs.Telling.{Ran, seen};
 
+use crate::flushing::play_begun;
 use crate::loading::play_load;
 use crate::plain_floor::PlainFloor;
 use crate::plan::{Plan, plan_of};
-use crate::replaying::play_file;
 use crate::status::Status;
 use io_edge::{Shelf, Sink};
 use line_reader::{LineReader, tell};
@@ -50,6 +50,7 @@ fn play_named<F: PlainFloor, H: Shelf, K: Sink, L: Ledger>(
     ensures missing { IfSome (H.told shelf.old) (λ files. IsNone (file_named files name.now) →
         ((result ≡ Status.ReadFault) ⊎ (result ≡ Status.NoMemory))
         × (seen (K.told out.new) steps.new ≡ seen (K.told out.old) steps.old)) }
+    ensures written { K.waiting out.old ≡ [] → result ≢ Status.WriteFault → K.waiting out.new ≡ [] }
     ensures read_later { H.faults shelf.old ≤ H.faults shelf.new }
     ensures write_later { K.faults out.old ≤ K.faults out.new }
     ensures read { result ≡ Status.ReadFault → Rose (H.faults shelf.old) (H.faults shelf.new) }
@@ -62,7 +63,7 @@ fn play_named<F: PlainFloor, H: Shelf, K: Sink, L: Ledger>(
         Err(_) => return Status::NoMemory,
     };
     match shelf.begin(name) {
-        Ok(()) => play_file::<F, H, K, L>(alloc, &mut reader, shelf, out, steps),
+        Ok(()) => play_begun::<F, H, K, L>(alloc, &mut reader, shelf, out, steps),
         Err(_) => Status::ReadFault,
     }
 }
@@ -77,6 +78,7 @@ fn answer<F: PlainFloor, H: Shelf, K: Sink, L: Ledger>(
 ) -> Status
     ensures ends { Ends (H.told shelf.old) (texts words.now) (H.left shelf.new)
         (seen (K.told out.old) steps.old) (seen (K.told out.new) steps.new) result }
+    ensures written { K.waiting out.old ≡ [] → result ≢ Status.WriteFault → K.waiting out.new ≡ [] }
     ensures read { result ≡ Status.ReadFault → Rose (H.faults shelf.old) (H.faults shelf.new) }
     ensures write { result ≡ Status.WriteFault → Rose (K.faults out.old) (K.faults out.new) }
     ensures sure { IsTrue (H.sure shelf.old) → (name : List ℕ) → script_named (texts words.now) ≡ Some name →
@@ -112,6 +114,8 @@ pub fn replay_over<F: PlainFloor, H: Shelf, K: Sink, E: Sink, L: Ledger>(
         (seen (K.told out.old) steps.old) (seen (K.told out.new) steps.new) ended
         × IsTold ended result (E.told err.old) (E.told err.new) (E.faults err.old) (E.faults err.new) }
     ensures quiet { result ≡ Status.Done → err.new ≡ err.old }
+    // Where nothing waited before the run, nothing waits behind it: all that was put was written, but for a write fault.
+    ensures written { K.waiting out.old ≡ [] → result ≢ Status.WriteFault → K.waiting out.new ≡ [] }
 
     // Faults come only where a count rose, and bad words only where they have no form.
     ensures bad_words { result ≡ Status.BadWords → plan_of (texts words.now) ≡ None }
@@ -129,8 +133,8 @@ pub fn replay_over<F: PlainFloor, H: Shelf, K: Sink, E: Sink, L: Ledger>(
 }
 
 /// Plays what the words ask for. A script is read from the shelf, and its transcript is put to `out` line by line. A load
-/// run plays the load script and puts one line that sums it up. The text of the status that ends the run is put to `err`,
-/// once. The words are those behind the program's name.
+/// run plays the load script and puts one line that sums it up. What waits in `out` then is written, and behind that the
+/// text of the status that ends the run is put to `err`, once. The words are those behind the program's name.
 pub fn replay<H: Shelf, K: Sink, E: Sink, L: Ledger>(
     alloc: Global,
     words: &[String],
@@ -145,6 +149,8 @@ pub fn replay<H: Shelf, K: Sink, E: Sink, L: Ledger>(
         (seen (K.told out.old) steps.old) (seen (K.told out.new) steps.new) ended
         × IsTold ended result (E.told err.old) (E.told err.new) (E.faults err.old) (E.faults err.new) }
     ensures quiet { result ≡ Status.Done → err.new ≡ err.old }
+    // Where nothing waited before the run, nothing waits behind it: all that was put was written, but for a write fault.
+    ensures written { K.waiting out.old ≡ [] → result ≢ Status.WriteFault → K.waiting out.new ≡ [] }
 
     // Faults come only where a count rose, and bad words only where they have no form.
     ensures bad_words { result ≡ Status.BadWords → plan_of (texts words.now) ≡ None }

@@ -17,7 +17,7 @@ pub enum Status {
     LimitLine { line: u32, which: LimitCause },
     /// The script could not be opened or read. The transcript of the whole lines that were read was put.
     ReadFault,
-    /// A write failed. A beginning of the output was put.
+    /// A write failed. A beginning of the output was put, of which the end may not have been written.
     WriteFault,
     /// Memory was wanted. A beginning of the output was put.
     NoMemory,

@@ -1,5 +1,6 @@
 //! Devices in memory, and adapters to real files and streams.
 mod adapters;
 mod clocks;
+mod gathering;
 mod links;
 mod memory;

@@ -114,7 +114,7 @@ fn a_call_that_is_not_reached_fails_nothing(rt: HostRuntime) -> Result<(), Fail>
     let alloc = rt.alloc();
     let (script, trade) = first_trade(alloc)?;
     let calls = script.len().div_ceil(PIECE) as u64 + 2;
-    let fails = (calls + 1, 12, 1);
+    let fails = (calls + 1, 13, 1);
     check_failed(
         &rt,
         alloc,
@@ -130,8 +130,8 @@ fn each_failing_put_leaves_a_beginning_of_the_transcript(rt: HostRuntime) -> Res
     let alloc = rt.alloc();
     let (script, trade) = first_trade(alloc)?;
     let script = script.as_str();
-    // The output of each line of the script is put by itself.
-    for put in 1..12usize {
+    // The output of each line of the script is put by itself. The last call flushes.
+    for put in 1..13usize {
         let output = front(trade, answered(trade, put - 1)?);
         let call = put as u64;
         check_failed(&rt, alloc, script, (0, call, 0), Status::WriteFault, output)?;

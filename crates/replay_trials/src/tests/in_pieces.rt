@@ -1,4 +1,4 @@
-//! A long script is read piece by piece: its output comes before its last bytes are read.
+//! A long script is read piece by piece: its output comes before its last bytes are read, and is flushed at its end.
 use super::run;
 use io_edge::{Failed, Shelf, Sink, SureShelf, SureSink};
 use std::cell::Cell;
@@ -34,12 +34,13 @@ impl<H: Shelf> Shelf for NotingShelf<'_, H> {
     }
 }
 
-/// A sink that notes when bytes were put first.
+/// A sink that notes when bytes were put first, and whether it was flushed behind the last put.
 #[derive(Drop)]
 struct NotingSink<'a, K: Sink> {
     sink: K,
     calls: &'a Cell<u64>,
     first_put: Option<u64>,
+    is_flushed: bool,
 }
 
 impl<K: Sink> Sink for NotingSink<'_, K> {
@@ -47,12 +48,20 @@ impl<K: Sink> Sink for NotingSink<'_, K> {
 
     ghost told = { λ s. K.told s.sink };
 
+    ghost waiting = { λ s. K.waiting s.sink };
+
     fn put(&mut self, piece: &[u8]) -> Result<(), Failed> {
         self.calls.set(self.calls.get().saturating_add(1));
+        self.is_flushed = false;
         if self.first_put.is_none() && !piece.is_empty() {
             self.first_put = Some(self.calls.get());
         }
         self.sink.put(piece)
+    }
+
+    fn flush(&mut self) -> Result<(), Failed> {
+        self.is_flushed = true;
+        self.sink.flush()
     }
 }
 
@@ -85,9 +94,11 @@ fn output_comes_before_the_last_bytes_of_a_long_script_are_read(
         sink: SureSink::new(),
         calls: &calls,
         first_put: None,
+        is_flushed: false,
     };
     run(alloc, &["s"], &mut shelf, &mut out, &mut SureSink::new())?;
     let first_put = out.first_put.ok_or("nothing was put")?;
     assert!(rt; first_put < shelf.last_pull);
+    assert!(rt; out.is_flushed);
     Ok(())
 }

@@ -33,11 +33,14 @@ fn shelves_in_memory_give_pieces(rt: HostRuntime) -> Result<(), Fail> {
 
 #[test]
 fn sinks_in_memory_keep_what_was_put(rt: HostRuntime) -> Result<(), Fail> {
-    let mut sink = MemSink::new(rt.alloc(), vec![in rt.alloc(); 2]?);
+    let mut sink = MemSink::new(rt.alloc(), vec![in rt.alloc(); 2, 4]?);
     assert!(rt; sink.put(b"ab").is_ok());
     assert!(rt; sink.put(b"cd").is_err());
     assert!(rt; sink.put(b"e").is_ok());
+    assert!(rt; sink.flush().is_err());
+    assert!(rt; sink.flush().is_ok());
     assert_eq!(rt; sink.bytes(), b"abe".as_slice());
     assert!(rt; SureSink::new().put(b"x").is_ok());
+    assert!(rt; SureSink::new().flush().is_ok());
     Ok(())
 }
