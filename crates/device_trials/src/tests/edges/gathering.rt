@@ -76,6 +76,7 @@ fn check(rt: &impl Abort, alloc: Global, pieces: &[usize], writes: &[usize]) -> 
     put_all(&mut sink, bytes.as_slice(), pieces)?;
     sink.flush()?;
     sink.flush()?;
+    drop(sink);
     assert_eq!(rt; stream.sizes.as_slice(), writes, "{pieces:?}");
     Ok(())
 }
@@ -98,6 +99,7 @@ fn what_a_failed_write_had_is_not_written_again(rt: HostRuntime) -> Result<(), F
     assert!(rt; sink.flush().is_ok());
     assert!(rt; put_all(&mut sink, bytes.as_slice(), &[3]).is_ok());
     assert!(rt; sink.flush().is_ok());
+    drop(sink);
     assert_eq!(rt; stream.sizes.as_slice(), [3usize].as_slice());
     Ok(())
 }
@@ -111,6 +113,7 @@ fn a_put_that_finds_no_room_fails_with_the_write(rt: HostRuntime) -> Result<(), 
     assert!(rt; put_all(&mut sink, bytes.as_slice(), &[65_536]).is_err());
     assert!(rt; put_all(&mut sink, bytes.as_slice(), &[4]).is_ok());
     assert!(rt; sink.flush().is_ok());
+    drop(sink);
     assert_eq!(rt; stream.sizes.as_slice(), [4usize].as_slice());
     Ok(())
 }
