@@ -14,7 +14,7 @@ use Rattle.session_core.specs.declared.message.Message.{Message}
 use Rattle.member_gate.specs.Answering.{name_at}
 use Rattle.member_gate.specs.Reporting.{cursor_at}
 use Rattle.member_gate.specs.Submitting.{Waited}
-use Rattle.member_gate.proofs.Looking.{waited_on, ahead_on}
+use Rattle.member_gate.proofs.Looking.{waited_on, ahead_on, all_seen}
 use Rattle.drop_copy.specs.Copies.{copy_of, copies, copies_at, symbol_copies, copies_past, cursor_of}
 use Rattle.drop_copy.specs.Looks.{WentOn, AllWentOn, LookedSoFar, LookedRow, row_copies}
 use Rattle.drop_copy.proofs.Spans.{copies_grown, copies_to_end}
@@ -160,8 +160,8 @@ module _ {F : Type 0} (at : F → ℕ → SymbolView) (made : ℕ → List Event
       ap (λ (from : ℕ). copies config (name_at config.symbols count) (get_or members place 0) from (get_or r.row place 0) (at next count).reports) (start place)
       ∙ ap (λ (to : ℕ). copies config (name_at config.symbols count) (get_or members place 0) (cursor_of members cursors count place) to (at next count).reports) (sym (added place))) in
       let all = flat_map (symbol_copies config members cursors moved (reports_of_floor now)) (range_with_len 0 count) in record {
-        waited = waited_on at config 0 cursors any_look before now next count l.waited l.ahead others one;
-        ahead = ahead_on at config 0 cursors any_look before now next count l.ahead others;
+        waited = waited_on at config 0 cursors all_seen any_look before now next count l.waited l.ahead others one;
+        ahead = ahead_on at config 0 cursors all_seen any_look before now next count l.ahead others;
         many = ap length r.moved_are ∙ length-append moved r.row ∙ omega (arith, l.many, r.many, next_row count width);
         messages_are =
             r.messages_are ∙ ap (λ (ms : List Message). ms ++ flat_map (row_copies config count members cursors (length moved) r.row (at next count).reports) (range_with_len 0 width)) l.messages_are
