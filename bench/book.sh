@@ -25,7 +25,7 @@ use std::rt::{Clock, Runtime};
 use std::sync::ledger::{Blank, Ledger};
 use std::time::Instant;
 use symbol_book::Book;
-use venue_words::{Bytes, Command, Event, Held, NoMemory, Report, Row, Steps, Terms};
+use venue_words::{BoxedTerms, Bytes, Command, Event, Held, NoMemory, Report, Row, Steps, Terms};
 
 /// 100 shares as an amount, and one unit of price.
 const ROUND_LOT: i128 = 10_000_000_000;
@@ -54,7 +54,7 @@ fn new(alloc: Global, number: u32, terms: Terms) -> Result<Command, NoMemory> {
     Ok(Command::New {
         member: number % 200,
         id: Bytes::copy_of(alloc, text.as_bytes())?,
-        terms,
+        terms: BoxedTerms::new(alloc, terms)?,
     })
 }
 
@@ -158,11 +158,12 @@ fn load<L: Ledger>(rt: &(impl Runtime + AllocGlobal), counts: [u32; 3], blank: B
 /// How many bytes the parts take.
 fn print_sizes(rt: &impl Print) -> io::Result<()> {
     let event = size_of::<Event>();
+    let terms = size_of::<Terms>();
     let order = size_of::<Order>();
     let row = size_of::<Option<Row>>();
     let report = size_of::<Report>();
     let node = size_of::<Node>();
-    println!(rt; "sizes in bytes: an event {event}, an order {order}, its row {row}, its node {node}, a report {report}")
+    println!(rt; "sizes in bytes: an event {event}, terms {terms}, an order {order}, its row {row}, its node {node}, a report {report}")
 }
 
 fn main(rt: HostRuntime) -> io::Result<()> {

@@ -13,7 +13,7 @@ use fix_write::wrap;
 use script_text::read_header;
 use std::alloc::Global;
 use std::sync::ledger::{Blank, Ledger};
-use venue_words::{Bytes, Command, Config, Floor, NoMemory, Steps, Terms};
+use venue_words::{BoxedTerms, Bytes, Command, Config, Floor, NoMemory, Steps, Terms};
 
 /// The moment of all trials: 2024-01-02 14:30.
 const START: i64 = 1_704_205_800_000;
@@ -156,7 +156,7 @@ fn order(alloc: Global, member: u32, id: &[u8], side: u8) -> Result<Command, NoM
     Ok(Command::New {
         member,
         id,
-        terms: middle_order(side),
+        terms: BoxedTerms::new(alloc, middle_order(side))?,
     })
 }
 

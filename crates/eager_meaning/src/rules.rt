@@ -146,24 +146,30 @@ pub fn verdict(command: &Command, known: &Known) -> Option<Rule>
 {
     match command {
         Command::Quote { .. } | Command::Status { .. } => first_broken(&[]),
-        Command::New { terms, .. } => first_of(
-            &[
-                (known.used, 2),
-                (quantity_in(terms.quantity).is_none(), 3),
-                (terms.side != b'1' && terms.side != b'2', 4),
-            ],
-            &terms_tests(known.tick, terms),
-        ),
+        Command::New { terms, .. } => {
+            let terms = terms.get();
+            first_of(
+                &[
+                    (known.used, 2),
+                    (quantity_in(terms.quantity).is_none(), 3),
+                    (terms.side != b'1' && terms.side != b'2', 4),
+                ],
+                &terms_tests(known.tick, terms),
+            )
+        }
         Command::Cancel { .. } => first_broken(&[(known.used, 2), (!known.live, 16)]),
-        Command::Replace { terms, .. } => first_of_three(
-            &[
-                (known.used, 2),
-                (!known.live, 16),
-                (terms.side != side_code(known.side), 17),
-                (quantity_in(terms.quantity).is_none(), 3),
-            ],
-            &terms_tests(known.tick, terms),
-            &[(quantity_of(terms) <= known.cum, 18)],
-        ),
+        Command::Replace { terms, .. } => {
+            let terms = terms.get();
+            first_of_three(
+                &[
+                    (known.used, 2),
+                    (!known.live, 16),
+                    (terms.side != side_code(known.side), 17),
+                    (quantity_in(terms.quantity).is_none(), 3),
+                ],
+                &terms_tests(known.tick, terms),
+                &[(quantity_of(terms) <= known.cum, 18)],
+            )
+        }
     }
 }

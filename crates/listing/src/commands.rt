@@ -80,7 +80,7 @@ pub fn push_command(
         }
         Command::New { member, id, terms } => {
             push_field(fields, CL_ORD_ID, id.as_slice())?;
-            push_terms(fields, terms)?;
+            push_terms(fields, terms.get())?;
             (b'D', *member)
         }
         Command::Cancel { member, id, orig } => {
@@ -96,7 +96,7 @@ pub fn push_command(
         } => {
             push_field(fields, CL_ORD_ID, id.as_slice())?;
             push_field(fields, ORIG_CL_ORD_ID, orig.as_slice())?;
-            push_terms(fields, terms)?;
+            push_terms(fields, terms.get())?;
             (b'G', *member)
         }
         Command::Status { member, id, side } => {

@@ -11,7 +11,7 @@ use order_fields::tags::{CL_ORD_ID, ORIG_CL_ORD_ID, SIDE};
 use session_core::lookup::text_in;
 use session_core::message_types::{CANCEL_REQUEST, NEW_ORDER, REPLACE_REQUEST};
 use std::alloc::Global;
-use venue_words::{Bytes, Command, Config, NoMemory};
+use venue_words::{BoxedTerms, Bytes, Command, Config, NoMemory};
 
 /// The quote of the words behind `Q`.
 #[tactic(auto, unfolding(crate::specs::Told::told_quote))]
@@ -50,7 +50,7 @@ fn command_of(
         NEW_ORDER => Ok(Command::New {
             member,
             id,
-            terms: terms_of(fields),
+            terms: BoxedTerms::new(alloc, terms_of(fields))?,
         }),
         CANCEL_REQUEST => Ok(Command::Cancel {
             member,
@@ -61,7 +61,7 @@ fn command_of(
             member,
             id,
             orig: copy_of(alloc, ORIG_CL_ORD_ID, fields)?,
-            terms: terms_of(fields),
+            terms: BoxedTerms::new(alloc, terms_of(fields))?,
         }),
         _ => Ok(Command::Status {
             member,

@@ -139,14 +139,14 @@ fn fits_fields(command: &Command) -> bool
 {
     match command {
         Command::Quote { .. } => true,
-        Command::New { id, terms, .. } => fits_text(id) && fits_terms(terms),
+        Command::New { id, terms, .. } => fits_text(id) && fits_terms(terms.get()),
         Command::Cancel { id, orig, .. } => fits_text(id) && fits_text(orig),
         Command::Replace {
             id,
             orig,
             terms,
             ..
-        } => fits_text(id) && (fits_text(orig) && fits_terms(terms)),
+        } => fits_text(id) && (fits_text(orig) && fits_terms(terms.get())),
         Command::Status { id, side, .. } => fits_text(id) && fits_code(*side),
     }
 }

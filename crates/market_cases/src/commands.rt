@@ -3,7 +3,7 @@ use case_text::Words;
 use fix_fields::amount;
 use quote_intake::price;
 use std::alloc::AllocError;
-use venue_words::{Bytes, Command, Terms};
+use venue_words::{BoxedTerms, Bytes, Command, Terms};
 
 /// The number of a member by its letter.
 fn member_of(name: &[u8]) -> u32 {
@@ -69,7 +69,7 @@ fn new_of(words: &Words<'_>) -> Result<Option<Command>, AllocError> {
     Ok(Some(Command::New {
         member: member_of(words.at(0)),
         id: Bytes::copy_of(words.alloc, words.at(1))?,
-        terms,
+        terms: BoxedTerms::new(words.alloc, terms)?,
     }))
 }
 
@@ -82,7 +82,7 @@ fn replace_of(words: &Words<'_>) -> Result<Option<Command>, AllocError> {
         member: member_of(words.at(0)),
         id: Bytes::copy_of(words.alloc, words.at(1))?,
         orig: words.copy(b"orig")?,
-        terms,
+        terms: BoxedTerms::new(words.alloc, terms)?,
     }))
 }
 

@@ -13,7 +13,9 @@ use session_core::lookup::text_in;
 use session_core::message_types::{CANCEL_REQUEST, NEW_ORDER, REPLACE_REQUEST, is_order};
 use session_core::{Request, first_failed};
 use std::alloc::Global;
-use venue_words::{Bytes, Command, Config, Kind, NoMemory, RefusedRequest, Report, Rule};
+use venue_words::{
+    BoxedTerms, Bytes, Command, Config, Kind, NoMemory, RefusedRequest, Report, Rule,
+};
 
 /// Why a message does not reach a book. Nothing is changed by it.
 #[derive(Clone, Copy, Debug, PartialEq, Eq)]
@@ -50,7 +52,7 @@ fn command_of(
         NEW_ORDER => Ok(Command::New {
             member,
             id,
-            terms: terms_of(fields),
+            terms: BoxedTerms::new(alloc, terms_of(fields))?,
         }),
         CANCEL_REQUEST => Ok(Command::Cancel {
             member,
@@ -61,7 +63,7 @@ fn command_of(
             member,
             id,
             orig: copy_of(alloc, ORIG_CL_ORD_ID, fields)?,
-            terms: terms_of(fields),
+            terms: BoxedTerms::new(alloc, terms_of(fields))?,
         }),
         _ => Ok(Command::Status {
             member,

@@ -125,7 +125,7 @@ impl Plain {
             Command::New { member, id, terms } => {
                 let used = is_used(*member, id.as_slice(), &self.used);
                 let broken = verdict(command, &known_of(tick, used, &None));
-                self.on_new(alloc, tick, event, *member, id, terms, broken)
+                self.on_new(alloc, tick, event, *member, id, terms.get(), broken)
             }
             Command::Cancel { member, id, orig } => {
                 let live = self.live(alloc, *member, orig)?;
@@ -142,6 +142,7 @@ impl Plain {
                 let live = self.live(alloc, *member, orig)?;
                 let used = is_used(*member, id.as_slice(), &self.used);
                 let broken = verdict(command, &known_of(tick, used, &live));
+                let terms = terms.get();
                 self.on_replace(alloc, tick, event, *member, id, orig, terms, &live, broken)
             }
             Command::Status { member, id, side } => self.on_status(alloc, *member, id, *side),

@@ -57,7 +57,9 @@ pub fn key_for(tick: u32, command: &Command) -> Option<Key>
     ensures fits { ForSome result IsKey }
 {
     match command {
-        Command::New { terms, .. } | Command::Replace { terms, .. } => Some(key_of(tick, terms)),
+        Command::New { terms, .. } | Command::Replace { terms, .. } => {
+            Some(key_of(tick, terms.get()))
+        }
         _ => None,
     }
 }

@@ -3,6 +3,7 @@ ghost use Rattle.std.specs.Prelude.{◌≡◌, IfOk};
 
 use crate::bytes::Bytes;
 use std::alloc::{AllocError, Global};
+use std::marker::Model;
 
 /// The fields of a new or replacing order as they were received, before any rule is tested.
 /// An amount counts units of 10^-8, so that 100 shares are 10,000,000,000.
@@ -34,6 +35,34 @@ pub struct Terms {
     pub round: Option<u32>,
 }
 
+/// Terms on the heap, so that a command and its event are small. Contracts see the terms.
+#[derive(Debug, Drop)]
+pub struct BoxedTerms(Box<Terms>);
+
+impl Model for BoxedTerms {
+    ghost use Rattle.venue_words.specs.declared.command.Terms.{Terms};
+
+    ghost Value = { Terms };
+
+    ghost view = { λ b. b.0.value };
+}
+
+impl BoxedTerms {
+    /// These terms, on the heap.
+    pub fn new(alloc: Global, terms: Terms) -> Result<BoxedTerms, AllocError>
+        ensures { IfOk result (λ boxed. boxed ≡ terms) }
+    {
+        Ok(BoxedTerms(Box::new(alloc, terms)?))
+    }
+
+    /// The terms.
+    pub fn get(&self) -> &Terms
+        ensures { result.now ≡ self.now }
+    {
+        self.0.as_ref()
+    }
+}
+
 /// What a feed or a member asks of one symbol's book. Members and markets are numbered from 0.
 #[derive(Debug, Drop)]
 pub enum Command {
@@ -47,7 +76,7 @@ pub enum Command {
     New {
         member: u32,
         id: Bytes,
-        terms: Terms,
+        terms: BoxedTerms,
     },
     /// OrderCancelRequest (35=F). `orig` is OrigClOrdID(41).
     Cancel {
@@ -60,7 +89,7 @@ pub enum Command {
         member: u32,
         id: Bytes,
         orig: Bytes,
-        terms: Terms,
+        terms: BoxedTerms,
     },
     /// OrderStatusRequest (35=H). `side` is the byte of Side(54) as it was received.
     Status {
@@ -84,7 +113,7 @@ impl Command {
             Command::New { member, id, terms } => Ok(Command::New {
                 member: *member,
                 id: Bytes::copy_of(alloc, id.as_slice())?,
-                terms: *terms,
+                terms: BoxedTerms::new(alloc, *terms.get())?,
             }),
             Command::Cancel { member, id, orig } => Ok(Command::Cancel {
                 member: *member,
@@ -100,7 +129,7 @@ impl Command {
                 member: *member,
                 id: Bytes::copy_of(alloc, id.as_slice())?,
                 orig: Bytes::copy_of(alloc, orig.as_slice())?,
-                terms: *terms,
+                terms: BoxedTerms::new(alloc, *terms.get())?,
             }),
             Command::Status { member, id, side } => Ok(Command::Status {
                 member: *member,

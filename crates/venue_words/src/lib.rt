@@ -16,7 +16,7 @@ pub mod row;
 pub mod steps;
 
 pub use bytes::Bytes;
-pub use command::{Command, Event, Rule, Terms};
+pub use command::{BoxedTerms, Command, Event, Rule, Terms};
 pub use config::Config;
 pub use floor::Floor;
 pub use held::Held;

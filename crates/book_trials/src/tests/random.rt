@@ -3,7 +3,7 @@ ghost use Rattle.std.specs.Prelude.{◌<◌};
 
 use super::orders::SHARE;
 use std::alloc::{AllocError, Global};
-use venue_words::{Bytes, Command, Event, Terms};
+use venue_words::{BoxedTerms, Bytes, Command, Event, Terms};
 
 /// One unit of price.
 const UNIT: i128 = 500_000;
@@ -158,7 +158,7 @@ fn id_of(alloc: Global, number: u32) -> Result<Bytes, AllocError> {
 fn request(alloc: Global, random: &mut Random, number: u32) -> Result<Command, AllocError> {
     let kind = random.below(9);
     let member = random.below(2);
-    let terms = random.terms();
+    let terms = BoxedTerms::new(alloc, random.terms())?;
     let other = number.saturating_sub(random.below(14));
     let own = if random.once_in(12) { other } else { number };
     let id = id_of(alloc, own)?;
