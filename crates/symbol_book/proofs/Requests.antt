@@ -167,13 +167,17 @@ replace_lowers tick event member id orig terms live s e = rw e refl
 pub replace_enters : (tick event member : ℕ) (id orig : List ℕ) (terms : Terms) (live : Live) (s : State) → only_lowers tick terms live ≡ false → replace tick event member id orig terms live s ≡ enter (arrival_of_replace tick event member id orig terms live s)
 replace_enters tick event member id orig terms live s e = rw e refl
 
--- a status request
-pub status_done : (tick : ℕ) (event : Event) (member : ℕ) (id : List ℕ) (side : ℕ) (room : Room) (s : State) (entered : List (Option Row)) (entries : List UsedId) (before after : List Report) (place : ℕ) → event.command ≡ Status member id side → IsRoomFor event.command room
-    → Reports event before 1 (on_status member room.orig.id.items side s).notices after place → IsWorked tick event s entered entries before s entered entries after place
+-- a status request, by the copy of its id
+pub status_command : (command : Command) (room : Room) (member : ℕ) (id : List ℕ) (side : ℕ) → IsRoomFor command room → command ≡ Status member id side → command ≡ Status room.orig.member room.orig.id.items side
+status_command command room member id side holds is =
+    let copies : CopiesOrig member id room = subst (λ (x : Command). IsRoomFor x room) is holds in
+    rw (copies.owner, copies.orig) is
+
+pub status_done : (tick : ℕ) (event : Event) (side : ℕ) (room : Room) (s : State) (entered : List (Option Row)) (entries : List UsedId) (before after : List Report) (place : ℕ) → event.command ≡ Status room.orig.member room.orig.id.items side
+    → Reports event before 1 (on_status room.orig.member room.orig.id.items side s).notices after place → IsWorked tick event s entered entries before s entered entries after place
 unfolding outcome_of on_status ids_after
-status_done tick event member id side room s entered entries before after place command copies told =
-    let names : CopiesOrig member id room = subst (λ (x : Command). IsRoomFor x room) command copies in
-    let outcome_is : outcome_of tick event.number event.command s ≡ on_status member room.orig.id.items side s = rw (command, names.orig) refl in
+status_done tick event side room s entered entries before after place command told =
+    let outcome_is : outcome_of tick event.number event.command s ≡ on_status room.orig.member room.orig.id.items side s = rw command refl in
     record {
       state = ap (λ (o : Outcome). o.state) outcome_is;
       reports = subst (λ (o : Outcome). Reports event before 1 o.notices after place) (sym outcome_is) told;

@@ -9,6 +9,7 @@ pub mod Ids
 pub mod Log
 pub mod Market
 pub mod Orders
+pub mod Parts
 pub mod Room
 pub mod Rows
 pub mod Setting

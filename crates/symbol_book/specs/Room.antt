@@ -1,9 +1,8 @@
 -- What a command finds made ahead for it.
-use Rattle.std.specs.Prelude.{◌≡◌, ℕ, ◌+◌, ◌*◌, ◌<◌, ◌≤◌, List}
+use Rattle.std.specs.Prelude.{◌≡◌, ℕ, List}
 use Rattle.venue_words.specs.declared.command.Command.{Command}
 use Rattle.venue_words.specs.declared.command.Command.TheVariants.{Quote, New, Cancel, Replace, Status}
 use Rattle.symbol_book.specs.declared.room.Room.{Room}
-use Rattle.symbol_book.specs.Log.{Log}
 
 -- copies of a command's own id: for the list of used ids, for the order and for the report
 pub record CopiesOwn (member : ℕ) (id : List ℕ) (room : Room) : Type 0 where
@@ -24,12 +23,3 @@ IsRoomFor (New member id terms) room = CopiesOwn member id room
 IsRoomFor (Cancel member id orig) room = CopiesOwn member id room × CopiesOrig member orig room
 IsRoomFor (Replace member id orig terms) room = CopiesOwn member id room × CopiesOrig member orig room
 IsRoomFor (Status member id side) room = CopiesOrig member id room
-
--- there are places for one event, in a book of so many rows
-pub record HasPlaces (rows order_room row_room id_room event_room : ℕ) (log : Log) : Type 0 where
-  pub orders : 0 < order_room
-  pub rows_room : 0 < row_room
-  pub ids : 0 < id_room
-  pub events : 0 < event_room
-  pub places : 2 * rows + 4 ≤ log.places
-  pub buffers : 2 * rows + 3 ≤ log.buffers

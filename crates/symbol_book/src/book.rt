@@ -35,13 +35,13 @@ pub struct BookOver<E: Engine + Drop> {
 }
 
 impl<E: Engine + Drop> Model for BookOver<E> {
-    ghost use Rattle.std.specs.Prelude.{◌≡◌, ◌+◌, ◌-◌, ◌++◌, Option, Some, length, vec_len};
+    ghost use Rattle.std.specs.Prelude.{◌≡◌, ◌<◌, Option, Some, length, vec_len};
     ghost use Rattle.std.specs.Vec.{vec_capacity};
     ghost use Rattle.venue_words.specs.declared.row.Key.{Key};
     ghost use Rattle.eager_meaning.specs.Work.{key_count};
     ghost use Rattle.symbol_book.specs.Book.{BookView, IsKept};
     ghost use Rattle.symbol_book.specs.Commands.{IsNarrow};
-    ghost use Rattle.symbol_book.specs.Room.{HasPlaces};
+    ghost use Rattle.symbol_book.specs.Parts.{HasRoom, resting_in, rows_in};
 
     ghost Value = { BookView };
 
@@ -58,10 +58,9 @@ impl<E: Engine + Drop> Model for BookOver<E> {
         (E.best b.parts.engine) (E.latest b.parts.engine) b.parts.orders.items b.parts.entered.items b.parts.ids
         b.parts.log b.journal.items
         × ((key : Option Key) → b.ready ≡ Some key → E.ready b.parts.engine key
-        × HasPlaces (length (E.buys b.parts.engine) + length (E.sells b.parts.engine))
-        (vec_capacity b.parts.orders - vec_len b.parts.orders) (vec_capacity b.parts.entered - vec_len b.parts.entered)
-        b.parts.ids.room (vec_capacity b.journal - vec_len b.journal) b.parts.log
-        × IsNarrow key (E.width b.parts.engine) (key_count (E.buys b.parts.engine ++ E.sells b.parts.engine))) };
+        × HasRoom (resting_in E.buys E.sells b.parts) b.parts
+        × (vec_len b.journal < vec_capacity b.journal)
+        × IsNarrow key (E.width b.parts.engine) (key_count (rows_in E.buys E.sells b.parts))) };
 }
 
 impl<E: Engine + Drop> BookOver<E> {

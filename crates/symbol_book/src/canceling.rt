@@ -1,67 +1,54 @@
 //! Cancels.
-ghost use Rattle.std.specs.Prelude.{◌≡◌, ◌+◌, ◌*◌, ◌<◌, ◌≤◌, ◌++◌, List, Some, None, false, length, slice_set};
+ghost use Rattle.std.specs.Prelude.{◌≡◌, ◌+◌, ◌<◌, ◌≤◌, None, false, length, slice_set};
 ghost use Rattle.venue_words.specs.Conditions.{IsTick};
 ghost use Rattle.venue_words.specs.declared.command.Command.TheVariants.{Cancel};
-ghost use Rattle.venue_words.specs.declared.price.Best.{Best};
 ghost use Rattle.eager_meaning.specs.declared.order.Live.{Live};
 ghost use Rattle.eager_meaning.specs.Changing.{cancel};
 ghost use Rattle.eager_meaning.specs.Orders.{is_used};
-ghost use Rattle.symbol_book.specs.Book.{KeepsOrders};
 ghost use Rattle.symbol_book.specs.Changes.{with_id};
 ghost use Rattle.symbol_book.specs.Finding.{IsFoundAs};
 ghost use Rattle.symbol_book.specs.Ids.{used_of};
 ghost use Rattle.symbol_book.specs.Log.{Reports};
-ghost use Rattle.symbol_book.specs.Room.{CopiesOwn, CopiesOrig};
-ghost use Rattle.symbol_book.specs.State.{state_of};
-ghost use Rattle.symbol_book.specs.Worked.{IsWorked};
+ghost use Rattle.symbol_book.specs.Parts.{Agree, AreWorked, HasRoom, resting_in, rows_in, state_in};
+ghost use Rattle.symbol_book.specs.Room.{CopiesOwn};
 
-use crate::finding::{Found, find_live};
-use crate::ids::UsedIds;
-use crate::log::ReportLog;
+use crate::finding::{Found, find_named};
+use crate::parts::Parts;
 use crate::refusing::{refuse, rule_of_request};
 use crate::room::Room;
 use crate::showing::view_closed;
-use eager_meaning::Order;
 use match_core::Engine;
 use std::sync::ledger::Ledger;
-use venue_words::{Bytes, Event, Execution, Kind, RefusedRequest, Row, Steps};
+use venue_words::{Bytes, Event, Execution, Kind, RefusedRequest, Steps};
 
 /// A live order leaves. Its report has the id of the cancel.
 #[tactic(auto, unfolding(eager_meaning::specs::Changing::cancel))]
-fn cancel<E: Engine, L: Ledger>(
-    engine: &mut E,
-    orders: &[Order],
-    entered: &mut Vec<Option<Row>>,
-    ids: &mut UsedIds,
-    log: &mut ReportLog,
+fn cancel<E: Engine + Drop, L: Ledger>(
+    parts: &mut Parts<E>,
     event: &Event,
-    member: u32,
     room: Room,
     found: Found,
     steps: &mut Steps<L>,
 ) -> u32
-    requires found { (live : Live) × IsFoundAs orders.now (E.buys engine.old ++ E.sells engine.old) live found }
-    requires here { found.number < length orders.now }
-    requires count { length entered.old.items ≡ length orders.now }
-    requires owner { room.own.member ≡ member }
-    requires fresh { is_used member room.own.id.items (used_of ids.old.entries) ≡ false }
-    requires same { room.shown ≡ room.own.id.items }
-    requires id_room { 0 < ids.old.room }
-    requires places { 0 < log.old.places }
-    ensures state { (markets : List Best) (live : Live)
-        → IsFoundAs orders.now (E.buys engine.old ++ E.sells engine.old) live found
-        → (cancel member room.shown room.orig.id.items live (state_of markets (E.buys engine.old)
-        (E.sells engine.old) orders.now (used_of ids.old.entries))).state
-        ≡ state_of markets (E.buys engine.new) (E.sells engine.new) orders.now (used_of ids.new.entries) }
-    ensures reports { (markets : List Best) (live : Live)
-        → IsFoundAs orders.now (E.buys engine.old ++ E.sells engine.old) live found
-        → Reports event.now log.old.list 1 (cancel member room.shown room.orig.id.items live (state_of markets
-        (E.buys engine.old) (E.sells engine.old) orders.now (used_of ids.old.entries))).notices log.new.list result }
-    ensures entered { entered.new.items ≡ slice_set entered.old.items found.number None }
-    ensures ids { ids.new.entries ≡ with_id member room.shown found.number ids.old.entries }
+    requires found { (live : Live)
+        × IsFoundAs parts.old.orders.items (rows_in E.buys E.sells parts.old) live found }
+    requires here { found.number < length parts.old.orders.items }
+    requires copies { CopiesOwn room.own.member room.own.id.items room }
+    requires fresh { is_used room.own.member room.own.id.items (used_of parts.old.ids.entries) ≡ false }
+    requires agree { Agree E.buys E.sells E.best parts.old }
+    requires places { HasRoom (resting_in E.buys E.sells parts.old) parts.old }
+    ensures state { (live : Live) → IsFoundAs parts.old.orders.items (rows_in E.buys E.sells parts.old) live found
+        → (cancel room.own.member room.shown room.orig.id.items live (state_in E.buys E.sells parts.old)).state
+        ≡ state_in E.buys E.sells parts.new }
+    ensures reports { (live : Live) → IsFoundAs parts.old.orders.items (rows_in E.buys E.sells parts.old) live found
+        → Reports event.now parts.old.log.list 1 (cancel room.own.member room.shown room.orig.id.items live
+        (state_in E.buys E.sells parts.old)).notices parts.new.log.list result }
+    ensures entered { parts.new.entered.items ≡ slice_set parts.old.entered.items found.number None }
+    ensures ids { parts.new.ids.entries ≡ with_id room.own.member room.shown found.number parts.old.ids.entries }
+    ensures rest { (parts.new.markets ≡ parts.old.markets) × (parts.new.orders ≡ parts.old.orders) }
     ensures most { steps.new ≤ steps.old + 512 }
-    ensures best { E.best engine.new ≡ E.best engine.old }
-    ensures latest { E.latest engine.new ≡ E.latest engine.old }
+    ensures best { E.best parts.new.engine ≡ E.best parts.old.engine }
+    ensures latest { E.latest parts.new.engine ≡ E.latest parts.old.engine }
 {
     let Room {
         own,
@@ -69,79 +56,45 @@ fn cancel<E: Engine, L: Ledger>(
         shown,
         orig,
     } = room;
-    let order = &orders[found.number as usize];
+    let member = own.member;
+    let order = &parts.orders[found.number as usize];
     let view = view_closed(order, shown);
-    engine.cut(&found.row, steps);
-    entered[found.number as usize] = None;
-    ids.push(own, found.number);
-    log.push(
-        event,
-        1,
-        member,
-        Kind::Order {
-            view,
-            execution: Execution::Canceled {
-                orig: Some(Bytes(orig.id)),
-            },
-        },
-    )
+    parts.engine.cut(&found.row, steps);
+    parts.entered[found.number as usize] = None;
+    parts.ids.push(own, found.number);
+    let execution = Execution::Canceled {
+        orig: Some(Bytes(orig.id)),
+    };
+    parts
+        .log
+        .push(event, 1, member, Kind::Order { view, execution })
 }
 
 /// A Cancel: it is refused, or the order leaves.
-pub fn on_cancel<E: Engine, L: Ledger>(
+pub fn on_cancel<E: Engine + Drop, L: Ledger>(
     tick: u32,
-    engine: &mut E,
-    orders: &[Order],
-    entered: &mut Vec<Option<Row>>,
-    ids: &mut UsedIds,
-    log: &mut ReportLog,
+    parts: &mut Parts<E>,
     event: &Event,
-    member: u32,
-    id: &Bytes,
-    orig: &Bytes,
     room: Room,
     steps: &mut Steps<L>,
 ) -> u32
     requires tick { IsTick tick }
-    requires command { event.now.command ≡ Cancel member id.now orig.now }
-    requires own { CopiesOwn member id.now room }
-    requires orig { CopiesOrig member orig.now room }
-    requires kept { KeepsOrders entered.old.items orders.now (E.buys engine.old ++ E.sells engine.old) ids.old.entries }
-    requires id_room { 0 < ids.old.room }
-    requires places { 0 < log.old.places }
-    ensures worked { (markets : List Best) → IsWorked tick event.now (state_of markets (E.buys engine.old)
-        (E.sells engine.old) orders.now (used_of ids.old.entries)) entered.old.items ids.old.entries log.old.list
-        (state_of markets (E.buys engine.new) (E.sells engine.new) orders.now
-        (used_of ids.new.entries)) entered.new.items ids.new.entries log.new.list result }
+    requires command { event.now.command ≡ Cancel room.own.member room.own.id.items room.orig.id.items }
+    requires own { CopiesOwn room.own.member room.own.id.items room }
+    requires orig { room.orig.member ≡ room.own.member }
+    requires agree { Agree E.buys E.sells E.best parts.old }
+    requires places { HasRoom (resting_in E.buys E.sells parts.old) parts.old }
+    ensures worked { AreWorked E.buys E.sells tick event.now parts.old parts.new result }
+    ensures rest { (parts.new.markets ≡ parts.old.markets) × (parts.new.orders ≡ parts.old.orders) }
     ensures most { steps.new ≤ steps.old + 512 }
-    ensures best { E.best engine.new ≡ E.best engine.old }
-    ensures latest { E.latest engine.new ≡ E.latest engine.old }
+    ensures best { E.best parts.new.engine ≡ E.best parts.old.engine }
+    ensures latest { E.latest parts.new.engine ≡ E.latest parts.old.engine }
 {
-    let live = find_live(ids, orders, entered, &room.orig);
-    match rule_of_request(tick, ids, &room.own, live, orders, event) {
-        Some(rule) => {
-            let Room {
-                own: _,
-                order: _,
-                shown,
-                orig,
-            } = room;
-            refuse(
-                log,
-                event,
-                member,
-                RefusedRequest::Cancel,
-                shown,
-                Bytes(orig.id),
-                live,
-                orders,
-                rule,
-            )
-        }
+    let live = find_named(parts, &room);
+    match rule_of_request(tick, parts, &room, live, event) {
+        Some(rule) => refuse(parts, event, RefusedRequest::Cancel, room, live, rule),
         None => match live {
-            Some(found) => cancel(
-                engine, orders, entered, ids, log, event, member, room, found, steps,
-            ),
+            Some(found) => cancel(parts, event, room, found, steps),
             None => 1,
         },
     }

@@ -1,9 +1,7 @@
 //! Orders that enter.
-ghost use Rattle.std.specs.Prelude.{◌≡◌, ℕ, ◌+◌, ◌-◌, ◌*◌, ◌^◌, ◌<◌, ◌≤◌, ◌++◌, ◌∷◌, [], List, Some, None, All, length, vec_len};
-ghost use Rattle.std.specs.Vec.{vec_capacity};
+ghost use Rattle.std.specs.Prelude.{◌≡◌, ◌+◌, ◌-◌, ◌*◌, ◌^◌, ◌<◌, ◌≤◌, Some, All, length};
 ghost use Rattle.venue_words.specs.Conditions.{IsTick, IsRow};
 ghost use Rattle.venue_words.specs.Price.{price_shown};
-ghost use Rattle.venue_words.specs.declared.price.Best.{Best};
 ghost use Rattle.eager_meaning.specs.Entering.{enter, leftover_notice};
 ghost use Rattle.eager_meaning.specs.Terms.{key_of, quantity_of, row_of};
 ghost use Rattle.eager_meaning.specs.Work.{examined_by};
@@ -11,9 +9,10 @@ ghost use Rattle.peg_groups.specs.Side.{priced_at};
 ghost use Rattle.match_core.specs.BothSides.{others_of, entered_rows};
 ghost use Rattle.symbol_book.specs.Log.{Reports};
 ghost use Rattle.symbol_book.specs.Orders.{IsSmall, HaveLeft};
-ghost use Rattle.symbol_book.specs.State.{state_of};
+ghost use Rattle.symbol_book.specs.Parts.{resting_in, state_in};
 
 use crate::log::ReportLog;
+use crate::parts::Parts;
 use crate::showing::view_closed;
 use crate::trading::report_trades;
 use eager_meaning::{Order, row_of};
@@ -26,7 +25,8 @@ use venue_words::{Event, Execution, Kind, Row, Steps, Terms};
 pub fn entering_row(tick: u32, event: u32, order: u32, member: u32, cum: u32, terms: &Terms) -> Row
     requires { IsTick tick }
     ensures row { result ≡ row_of tick event order member cum terms.now }
-    ensures parts { (result.order ≡ order) × (result.entry ≡ event) × (result.key ≡ key_of tick terms.now) }
+    ensures parts { (result.order ≡ order) × (result.member ≡ member) × (result.entry ≡ event)
+        × (result.key ≡ key_of tick terms.now) }
     ensures leaves { result.leaves ≡ quantity_of terms.now - cum }
     ensures fits { IsRow result }
 {
@@ -71,62 +71,56 @@ fn report_leftover(
     )
 }
 
-/// An order enters with its first notice, walks once, and what is left of it rests or is canceled.
+/// An order enters with its first report, walks once, and what is left of it rests or is canceled.
 #[tactic(auto, unfolding(eager_meaning::specs::Entering::enter, eager_meaning::specs::Entering::entered, eager_meaning::specs::Entering::leftover_notices, eager_meaning::specs::Matching::row_after))]
-pub fn enter<E: Engine, L: Ledger>(
-    engine: &mut E,
-    orders: &mut Vec<Order>,
-    log: &mut ReportLog,
+pub fn enter<E: Engine + Drop, L: Ledger>(
+    parts: &mut Parts<E>,
     event: &Event,
     row: Row,
     immediate: bool,
-    member: u32,
     kind: Kind,
     steps: &mut Steps<L>,
 ) -> u32
     requires row { IsRow row }
-    requires ready { E.ready engine.old (Some row.key) }
-    requires later { E.latest engine.old < row.entry }
-    requires shares { 0 < row.leaves }
-    requires here { row.order < length orders.old.items }
-    requires left { HaveLeft (entered_rows (E.best engine.old) row immediate (E.buys engine.old)
-        (E.sells engine.old)).fills orders.old.items }
-    requires small { All IsSmall orders.old.items }
-    requires few { length (E.buys engine.old) + length (E.sells engine.old) < 2 ^ 30 }
-    requires places { 2 * (length (E.buys engine.old) + length (E.sells engine.old)) + 4 ≤ log.old.places }
-    requires buffers { 2 * (length (E.buys engine.old) + length (E.sells engine.old)) + 3 ≤ log.old.buffers }
-    ensures state { (markets : List Best) (used : List (ℕ × List ℕ))
-        → (enter (record {
-          taker = priced_at (E.best engine.old) row;
-          immediate = immediate;
-          state = state_of markets
-              (E.buys engine.old) (E.sells engine.old) orders.old.items used;
-          notice = record {
-            member = member;
-            kind = kind;
-          };
-        })).state ≡ state_of markets (E.buys engine.new) (E.sells engine.new) orders.new.items used }
-    ensures reports { (markets : List Best) (used : List (ℕ × List ℕ))
-        → Reports event.now log.old.list 1 (enter (record {
-          taker = priced_at
-              (E.best engine.old) row;
-          immediate = immediate;
-          state = state_of markets (E.buys engine.old)
-              (E.sells engine.old) orders.old.items used;
-          notice = record { member = member; kind = kind };
-        })).notices
-        log.new.list result }
-    ensures small { All IsSmall orders.new.items }
-    ensures most { steps.new ≤ steps.old + 2048 * (E.width engine.old + 1) * (examined_by
-        (priced_at (E.best engine.old) row) (others_of row.key.side (E.buys engine.old) (E.sells engine.old)) + 1) }
-    ensures best { E.best engine.new ≡ E.best engine.old }
-    ensures latest { E.latest engine.new ≡ row.entry }
+    requires ready { E.ready parts.old.engine (Some row.key) }
+    requires later { E.latest parts.old.engine < row.entry }
+    requires live { (0 < row.leaves) × (row.order < length parts.old.orders.items) }
+    requires left { HaveLeft (entered_rows (E.best parts.old.engine) row immediate (E.buys parts.old.engine)
+        (E.sells parts.old.engine)).fills parts.old.orders.items }
+    requires small { All IsSmall parts.old.orders.items }
+    requires few { resting_in E.buys E.sells parts.old < 2 ^ 30 }
+    requires room { (2 * resting_in E.buys E.sells parts.old + 4 ≤ parts.old.log.places)
+        × (2 * resting_in E.buys E.sells parts.old + 3 ≤ parts.old.log.buffers) }
+    ensures state { (enter (record {
+      taker = priced_at (E.best parts.old.engine) row;
+      immediate = immediate;
+      state = state_in E.buys E.sells parts.old;
+      notice = record {
+        member = row.member;
+        kind = kind;
+      };
+    })).state ≡ state_in E.buys E.sells parts.new }
+    ensures reports { Reports event.now parts.old.log.list 1 (enter (record {
+      taker = priced_at (E.best parts.old.engine) row;
+      immediate = immediate;
+      state = state_in E.buys E.sells parts.old;
+      notice = record { member = row.member; kind = kind };
+    })).notices parts.new.log.list result }
+    ensures rest { (parts.new.markets ≡ parts.old.markets) × (parts.new.entered ≡ parts.old.entered)
+        × (parts.new.ids ≡ parts.old.ids) }
+    ensures small { All IsSmall parts.new.orders.items }
+    ensures most { steps.new ≤ steps.old + 2048 * (E.width parts.old.engine + 1) * (examined_by
+        (priced_at (E.best parts.old.engine) row)
+        (others_of row.key.side (E.buys parts.old.engine) (E.sells parts.old.engine)) + 1) }
+    ensures best { E.best parts.new.engine ≡ E.best parts.old.engine }
+    ensures latest { E.latest parts.new.engine ≡ row.entry }
 {
-    let place = log.push(event, 1, member, kind);
-    let left = engine.enter(row, immediate, steps);
-    let place = report_trades(log, event, place, engine.fills(), orders);
+    let place = parts.log.push(event, 1, row.member, kind);
+    let left = parts.engine.enter(row, immediate, steps);
+    let fills = parts.engine.fills();
+    let place = report_trades(&mut parts.log, event, place, fills, &mut parts.orders);
     if immediate && left {
-        report_leftover(log, event, place, row.order, orders)
+        report_leftover(&mut parts.log, event, place, row.order, &parts.orders)
     } else {
         place
     }

@@ -4,10 +4,14 @@ ghost use Rattle.venue_words.specs.declared.row.Priced.{Priced};
 ghost use Rattle.eager_meaning.specs.Orders.{is_named, order_named, live_named};
 ghost use Rattle.symbol_book.specs.Finding.{IsNumber, IsRowIfLive, IsFound};
 ghost use Rattle.symbol_book.specs.Ids.{NameOrders, named_at};
+ghost use Rattle.symbol_book.specs.Parts.{Agree, rows_in};
 ghost use Rattle.symbol_book.specs.Rows.{AreEntered};
 
 use crate::ids::{ClOrdId, UsedIds};
+use crate::parts::Parts;
+use crate::room::Room;
 use eager_meaning::Order;
+use match_core::Engine;
 use venue_words::Row;
 
 /// A live order: its number, and the row with which it entered.
@@ -69,7 +73,7 @@ pub fn live_row(orders: &[Order], entered: &[Option<Row>], number: u32) -> Optio
 }
 
 /// The member's live order that has this id at present.
-pub fn find_live(
+fn find_live(
     ids: &UsedIds,
     orders: &[Order],
     entered: &[Option<Row>],
@@ -88,4 +92,14 @@ pub fn find_live(
         },
         None => None,
     }
+}
+
+/// The live order that a Cancel or a Replace names, by the copy of its id.
+pub fn find_named<E: Engine + Drop>(parts: &Parts<E>, room: &Room) -> Option<Found>
+    requires { Agree E.buys E.sells E.best parts.now }
+    ensures here { IfSome result (λ found. found.number < length parts.now.orders.items) }
+    ensures live { IsFound parts.now.orders.items (rows_in E.buys E.sells parts.now) (live_named room.now.orig.member
+        room.now.orig.id.items parts.now.orders.items (rows_in E.buys E.sells parts.now)) result }
+{
+    find_live(&parts.ids, &parts.orders, &parts.entered, &room.orig)
 }

@@ -1,11 +1,12 @@
 //! Room for one event.
-ghost use Rattle.std.specs.Prelude.{◌≡◌, ◌+◌, ◌-◌, ◌*◌, ◌^◌, ◌<◌, ◌≤◌, ◌++◌, OnOk, IfOk, vec_len};
+ghost use Rattle.std.specs.Prelude.{◌≡◌, ◌+◌, ◌*◌, ◌^◌, ◌<◌, ◌≤◌, ◌++◌, OnOk, IfOk, vec_len};
 ghost use Rattle.std.specs.Option.{ForSome};
 ghost use Rattle.std.specs.Vec.{vec_capacity};
 ghost use Rattle.venue_words.specs.Conditions.{IsTick, IsKey};
 ghost use Rattle.eager_meaning.specs.Work.{key_count};
 ghost use Rattle.symbol_book.specs.Commands.{IsNarrow, key_for};
-ghost use Rattle.symbol_book.specs.Room.{CopiesOwn, CopiesOrig, IsRoomFor, HasPlaces};
+ghost use Rattle.symbol_book.specs.Parts.{HasRoom};
+ghost use Rattle.symbol_book.specs.Room.{CopiesOwn, CopiesOrig, IsRoomFor};
 
 use crate::ids::ClOrdId;
 use crate::parts::Parts;
@@ -87,9 +88,8 @@ pub fn make_room<E: Engine + Drop>(
     ensures ready { OnOk result (E.ready parts.new.engine key) }
     ensures narrow { OnOk result (IsNarrow key (E.width parts.new.engine) (key_count
         (E.buys parts.new.engine ++ E.sells parts.new.engine))) }
-    ensures room { OnOk result (HasPlaces rows (vec_capacity parts.new.orders - vec_len parts.new.orders)
-        (vec_capacity parts.new.entered - vec_len parts.new.entered) parts.new.ids.room
-        (vec_capacity journal.new - vec_len journal.new) parts.new.log) }
+    ensures room { OnOk result (HasRoom rows parts.new) }
+    ensures event { OnOk result (vec_len journal.new < vec_capacity journal.new) }
 {
     parts.orders.reserve(1)?;
     parts.entered.reserve(1)?;

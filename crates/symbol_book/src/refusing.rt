@@ -11,9 +11,10 @@ ghost use Rattle.symbol_book.specs.Ids.{used_of};
 ghost use Rattle.symbol_book.specs.Log.{Reports};
 
 use crate::finding::Found;
-use crate::ids::{ClOrdId, UsedIds};
-use crate::log::ReportLog;
+use crate::parts::Parts;
+use crate::room::Room;
 use eager_meaning::{Known, Order, verdict};
+use match_core::Engine;
 use venue_words::{Bytes, Event, Kind, NamedOrder, OrderStatus, RefusedRequest, Rule, Side};
 
 /// What the rules ask of the book, for a request that names this live order, or none.
@@ -46,55 +47,50 @@ fn known_of(tick: u32, used: bool, live: Option<Found>, orders: &[Order]) -> Kno
 }
 
 /// The first rule that a Cancel or a Replace breaks, or none.
-pub fn rule_of_request(
+pub fn rule_of_request<E: Engine + Drop>(
     tick: u32,
-    ids: &UsedIds,
-    own: &ClOrdId,
+    parts: &Parts<E>,
+    room: &Room,
     live: Option<Found>,
-    orders: &[Order],
     event: &Event,
 ) -> Option<Rule>
     requires tick { IsTick tick }
-    requires here { IfSome live (λ found. found.number < length orders.now) }
-    ensures { (rows : List Priced) (is : Option Live) → IsFound orders.now rows is live
-        → result ≡ verdict event.now.command (known_of tick (is_used own.now.member own.now.id.items
-        (used_of ids.now.entries)) is) }
+    requires here { IfSome live (λ found. found.number < length parts.now.orders.items) }
+    ensures { (rows : List Priced) (is : Option Live) → IsFound parts.now.orders.items rows is live
+        → result ≡ verdict event.now.command (known_of tick (is_used room.now.own.member room.now.own.id.items
+        (used_of parts.now.ids.entries)) is) }
 {
-    let known = known_of(tick, ids.contains(own), live, orders);
+    let used = parts.ids.contains(&room.own);
+    let known = known_of(tick, used, live, &parts.orders);
     verdict(&event.command, &known)
 }
 
 /// A Cancel or a Replace is refused.
-pub fn refuse(
-    log: &mut ReportLog,
+pub fn refuse<E: Engine + Drop>(
+    parts: &mut Parts<E>,
     event: &Event,
-    member: u32,
     request: RefusedRequest,
-    id: Bytes,
-    orig: Bytes,
+    room: Room,
     live: Option<Found>,
-    orders: &[Order],
     rule: Rule,
 ) -> u32
-    requires here { IfSome live (λ found. found.number < length orders.now) }
-    requires places { 0 < log.old.places }
-    ensures reports { (rows : List Priced) (is : Option Live) → IsFound orders.now rows is live
-        → Reports event.now log.old.list 1 (record { member = member; kind = refusal request id orig is rule } ∷ [])
-        log.new.list result }
+    requires here { IfSome live (λ found. found.number < length parts.old.orders.items) }
+    requires places { 0 < parts.old.log.places }
+    ensures reports { (rows : List Priced) (is : Option Live) → IsFound parts.old.orders.items rows is live
+        → Reports event.now parts.old.log.list 1
+        (record { member = room.own.member; kind = refusal request room.shown room.orig.id.items is rule } ∷ [])
+        parts.new.log.list result }
+    ensures rest { parts.new ≡ record parts.old { log = parts.new.log } }
 {
-    let order = named_order(live, orders);
-    log.push(
-        event,
-        1,
-        member,
-        Kind::Refused {
-            id,
-            orig,
-            order,
-            request,
-            rule,
-        },
-    )
+    let order = named_order(live, &parts.orders);
+    let kind = Kind::Refused {
+        id: room.shown,
+        orig: Bytes(room.orig.id),
+        order,
+        request,
+        rule,
+    };
+    parts.log.push(event, 1, room.own.member, kind)
 }
 
 /// How a refusal names a live order, where there is one.

@@ -1,39 +1,33 @@
 //! Replaces.
-ghost use Rattle.std.specs.Prelude.{◌≡◌, ◌⊎◌, ℕ, ◌+◌, ◌-◌, ◌*◌, ◌^◌, ◌<◌, ◌≤◌, ◌++◌, List, Some, None, All, false};
+ghost use Rattle.std.specs.Prelude.{◌≡◌, ◌⊎◌, ◌+◌, ◌*◌, ◌<◌, ◌≤◌, List, Some, All, false};
 ghost use Rattle.std.specs.Prelude.{length, slice_get, slice_set, vec_len};
 ghost use Rattle.std.specs.Vec.{vec_capacity};
-ghost use Rattle.venue_words.specs.Best.{best_of};
 ghost use Rattle.venue_words.specs.Conditions.{IsTick};
 ghost use Rattle.venue_words.specs.declared.limits.TheConstants.{MAX_ID_BYTES};
 ghost use Rattle.venue_words.specs.declared.command.Command.TheVariants.{Replace};
-ghost use Rattle.venue_words.specs.declared.price.Best.{Best};
 ghost use Rattle.venue_words.specs.declared.row.Priced.{Priced};
 ghost use Rattle.eager_meaning.specs.declared.order.Live.{Live};
 ghost use Rattle.eager_meaning.specs.declared.order.Order.{Order};
 ghost use Rattle.eager_meaning.specs.Changing.{arrival_of_replace, only_lowers, replace, replaced_order, resize};
 ghost use Rattle.eager_meaning.specs.Entering.{enter};
 ghost use Rattle.eager_meaning.specs.Floor.{same_method};
-ghost use Rattle.eager_meaning.specs.Orders.{changed_at, is_used, known_of, live_named};
+ghost use Rattle.eager_meaning.specs.Orders.{changed_at, is_used};
 ghost use Rattle.eager_meaning.specs.Terms.{is_immediate, key_of, quantity_of, row_of};
-ghost use Rattle.eager_meaning.specs.Verdict.{verdict};
 ghost use Rattle.eager_meaning.specs.Work.{examined, examined_by_arrival};
 ghost use Rattle.market_laws.specs.Standing.{if_it_rests};
-ghost use Rattle.symbol_book.specs.Book.{KeepsOrders};
 ghost use Rattle.symbol_book.specs.Changes.{entered_by_replace, examined_by_replace, with_id};
 ghost use Rattle.symbol_book.specs.Finding.{IsFoundAs};
-ghost use Rattle.symbol_book.specs.Fitting.{ReplaceFits};
+ghost use Rattle.symbol_book.specs.Fitting.{CanWork, ReplaceFits};
 ghost use Rattle.symbol_book.specs.Ids.{used_of};
 ghost use Rattle.symbol_book.specs.Log.{Reports};
 ghost use Rattle.symbol_book.specs.Orders.{IsSmall};
-ghost use Rattle.symbol_book.specs.Room.{CopiesOwn, CopiesOrig};
-ghost use Rattle.symbol_book.specs.State.{state_of};
-ghost use Rattle.symbol_book.specs.Worked.{IsWorked};
+ghost use Rattle.symbol_book.specs.Parts.{Agree, AreWorked, HasRoom, resting_in, rows_in, state_in};
+ghost use Rattle.symbol_book.specs.Room.{CopiesOwn};
 
 use crate::admitting::kept_row;
 use crate::entering::{enter, entering_row, price_now};
-use crate::finding::{Found, find_live};
-use crate::ids::UsedIds;
-use crate::log::ReportLog;
+use crate::finding::{Found, find_named};
+use crate::parts::Parts;
 use crate::refusing::{refuse, rule_of_request};
 use crate::room::Room;
 use crate::showing::view_at;
@@ -43,6 +37,12 @@ use std::sync::ledger::Ledger;
 use venue_words::{
     Bytes, Event, Execution, Kind, Method, RefusedRequest, Row, Steps, Terms, same_key,
 };
+
+/// The live order that a Replace names, and the copies of the request's ids.
+struct Named {
+    found: Found,
+    room: Room,
+}
 
 /// Whether two orders meet their minimums in the same way.
 fn same_method(x: Method, y: Method) -> bool
@@ -105,304 +105,237 @@ fn set_terms(tick: u32, orders: &mut Vec<Order>, number: u32, id: Bytes, terms: 
 
 /// The quantity of a live order changes; its price, its time and its entry stay.
 #[tactic(auto, unfolding(eager_meaning::specs::Changing::resize))]
-fn resize<E: Engine, L: Ledger>(
+fn resize<E: Engine + Drop, L: Ledger>(
     tick: u32,
-    engine: &mut E,
-    orders: &mut Vec<Order>,
-    ids: &mut UsedIds,
-    log: &mut ReportLog,
+    parts: &mut Parts<E>,
     event: &Event,
-    member: u32,
     terms: &Terms,
-    room: Room,
-    found: Found,
+    named: Named,
     steps: &mut Steps<L>,
 ) -> u32
     requires tick { IsTick tick }
-    requires found { (live : Live) × IsFoundAs orders.old.items (E.buys engine.old ++ E.sells engine.old) live found
+    requires found { (live : Live)
+        × IsFoundAs parts.old.orders.items (rows_in E.buys E.sells parts.old) live named.found
         × (live.order.cum < quantity_of terms.now) }
-    requires here { found.number < length orders.old.items }
-    requires owner { room.own.member ≡ member }
-    requires fresh { is_used member room.own.id.items (used_of ids.old.entries) ≡ false }
-    requires order { room.order ≡ room.own.id.items }
-    requires shown { room.shown ≡ room.own.id.items }
-    requires short { length room.own.id.items ≤ MAX_ID_BYTES }
-    requires small { All IsSmall orders.old.items }
-    requires id_room { 0 < ids.old.room }
-    requires places { 0 < log.old.places }
-    ensures state { (markets : List Best) (live : Live)
-        → IsFoundAs orders.old.items (E.buys engine.old ++ E.sells engine.old) live found
-        → (resize tick member room.own.id.items room.orig.id.items terms.now live (state_of markets
-        (E.buys engine.old) (E.sells engine.old) orders.old.items (used_of ids.old.entries))).state
-        ≡ state_of markets (E.buys engine.new) (E.sells engine.new) orders.new.items (used_of ids.new.entries) }
-    ensures reports { (markets : List Best) (live : Live)
-        → IsFoundAs orders.old.items (E.buys engine.old ++ E.sells engine.old) live found
-        → Reports event.now log.old.list 1 (resize tick member room.own.id.items room.orig.id.items terms.now live
-        (state_of markets (E.buys engine.old) (E.sells engine.old) orders.old.items
-        (used_of ids.old.entries))).notices log.new.list result }
-    ensures ids { ids.new.entries ≡ with_id member room.own.id.items found.number ids.old.entries }
-    ensures small { All IsSmall orders.new.items }
+    requires here { named.found.number < length parts.old.orders.items }
+    requires copies { CopiesOwn named.room.own.member named.room.own.id.items named.room }
+    requires fresh { is_used named.room.own.member named.room.own.id.items (used_of parts.old.ids.entries) ≡ false }
+    requires short { length named.room.own.id.items ≤ MAX_ID_BYTES }
+    requires agree { Agree E.buys E.sells E.best parts.old }
+    requires places { HasRoom (resting_in E.buys E.sells parts.old) parts.old }
+    ensures state { (live : Live)
+        → IsFoundAs parts.old.orders.items (rows_in E.buys E.sells parts.old) live named.found
+        → (resize tick named.room.own.member named.room.own.id.items named.room.orig.id.items terms.now live
+        (state_in E.buys E.sells parts.old)).state ≡ state_in E.buys E.sells parts.new }
+    ensures reports { (live : Live)
+        → IsFoundAs parts.old.orders.items (rows_in E.buys E.sells parts.old) live named.found
+        → Reports event.now parts.old.log.list 1 (resize tick named.room.own.member named.room.own.id.items
+        named.room.orig.id.items terms.now live (state_in E.buys E.sells parts.old)).notices parts.new.log.list result }
+    ensures ids { parts.new.ids.entries
+        ≡ with_id named.room.own.member named.room.own.id.items named.found.number parts.old.ids.entries }
+    ensures entered { parts.new.entered.items ≡ parts.old.entered.items }
+    ensures markets { parts.new.markets ≡ parts.old.markets }
+    ensures small { All IsSmall parts.new.orders.items }
     ensures most { steps.new ≤ steps.old + 2048 }
-    ensures best { E.best engine.new ≡ E.best engine.old }
-    ensures latest { E.latest engine.new ≡ E.latest engine.old }
+    ensures best { E.best parts.new.engine ≡ E.best parts.old.engine }
+    ensures latest { E.latest parts.new.engine ≡ E.latest parts.old.engine }
 {
+    let Named { found, room } = named;
     let Room {
         own,
         order: copy,
         shown,
         orig,
     } = room;
-    let (price, time) = engine.priced(&found.row, steps);
-    set_terms(tick, orders, found.number, copy, terms);
-    let order = &orders[found.number as usize];
+    let member = own.member;
+    let (price, time) = parts.engine.priced(&found.row, steps);
+    set_terms(tick, &mut parts.orders, found.number, copy, terms);
+    let order = &parts.orders[found.number as usize];
     let leaves = order.quantity - order.cum;
     let view = view_at(order, shown, price, time);
-    engine.lower(&found.row, leaves, steps);
-    ids.push(own, found.number);
-    log.push(
-        event,
-        1,
-        member,
-        Kind::Order {
-            view,
-            execution: Execution::Replaced {
-                orig: Bytes(orig.id),
-            },
-        },
-    )
+    parts.engine.lower(&found.row, leaves, steps);
+    parts.ids.push(own, found.number);
+    let execution = Execution::Replaced {
+        orig: Bytes(orig.id),
+    };
+    parts
+        .log
+        .push(event, 1, member, Kind::Order { view, execution })
 }
 
 /// A live order leaves and enters anew.
 #[tactic(auto, unfolding(eager_meaning::specs::Changing::arrival_of_replace))]
-fn reenter<E: Engine, L: Ledger>(
+fn reenter<E: Engine + Drop, L: Ledger>(
     tick: u32,
-    engine: &mut E,
-    orders: &mut Vec<Order>,
-    entered: &mut Vec<Option<Row>>,
-    ids: &mut UsedIds,
-    log: &mut ReportLog,
+    parts: &mut Parts<E>,
     event: &Event,
-    member: u32,
     terms: &Terms,
-    room: Room,
-    found: Found,
+    named: Named,
     steps: &mut Steps<L>,
 ) -> u32
     requires tick { IsTick tick }
-    requires found { (live : Live) × IsFoundAs orders.old.items (E.buys engine.old ++ E.sells engine.old) live found
+    requires found { (live : Live)
+        × IsFoundAs parts.old.orders.items (rows_in E.buys E.sells parts.old) live named.found
         × (live.order.cum < quantity_of terms.now)
-        × ReplaceFits tick event.now.number member room.own.id.items terms.now live (E.best engine.old)
-        (E.buys engine.old) (E.sells engine.old) orders.old.items }
-    requires here { found.number < length orders.old.items }
-    requires count { length entered.old.items ≡ length orders.old.items }
-    requires owner { room.own.member ≡ member }
-    requires fresh { is_used member room.own.id.items (used_of ids.old.entries) ≡ false }
-    requires order { room.order ≡ room.own.id.items }
-    requires shown { room.shown ≡ room.own.id.items }
-    requires short { length room.own.id.items ≤ MAX_ID_BYTES }
-    requires ready { E.ready engine.old (Some (key_of tick terms.now)) }
-    requires later { E.latest engine.old < event.now.number }
-    requires small { All IsSmall orders.old.items }
-    requires id_room { 0 < ids.old.room }
-    requires few { length (E.buys engine.old) + length (E.sells engine.old) < 2 ^ 30 }
-    requires places { 2 * (length (E.buys engine.old) + length (E.sells engine.old)) + 4 ≤ log.old.places }
-    requires buffers { 2 * (length (E.buys engine.old) + length (E.sells engine.old)) + 3 ≤ log.old.buffers }
-    ensures state { (markets : List Best) (live : Live) → best_of markets ≡ E.best engine.old
-        → IsFoundAs orders.old.items (E.buys engine.old ++ E.sells engine.old) live found
-        → (enter (arrival_of_replace tick event.now.number member room.own.id.items room.orig.id.items terms.now live
-        (state_of markets (E.buys engine.old) (E.sells engine.old) orders.old.items (used_of ids.old.entries)))).state
-        ≡ state_of markets (E.buys engine.new) (E.sells engine.new) orders.new.items (used_of ids.new.entries) }
-    ensures reports { (markets : List Best) (live : Live) → best_of markets ≡ E.best engine.old
-        → IsFoundAs orders.old.items (E.buys engine.old ++ E.sells engine.old) live found
-        → Reports event.now log.old.list 1 (enter (arrival_of_replace tick event.now.number member room.own.id.items
-        room.orig.id.items terms.now live (state_of markets (E.buys engine.old) (E.sells engine.old) orders.old.items
-        (used_of ids.old.entries)))).notices log.new.list result }
-    ensures entered { (live : Live) → IsFoundAs orders.old.items (E.buys engine.old ++ E.sells engine.old) live found
-        → entered.new.items ≡ slice_set entered.old.items found.number (if_it_rests (is_immediate terms.now)
-        (row_of tick event.now.number found.number member live.order.cum terms.now)) }
-    ensures ids { ids.new.entries ≡ with_id member room.own.id.items found.number ids.old.entries }
-    ensures small { All IsSmall orders.new.items }
-    ensures most { (markets : List Best) (live : Live) → best_of markets ≡ E.best engine.old
-        → IsFoundAs orders.old.items (E.buys engine.old ++ E.sells engine.old) live found → steps.new
-        ≤ steps.old + 512 + 2048 * (E.width engine.old + 1) * (examined_by_arrival
-        (arrival_of_replace tick event.now.number member room.own.id.items room.orig.id.items terms.now live
-        (state_of markets (E.buys engine.old) (E.sells engine.old) orders.old.items (used_of ids.old.entries))) + 1) }
-    ensures best { E.best engine.new ≡ E.best engine.old }
-    ensures latest { E.latest engine.new ≡ event.now.number }
+        × ReplaceFits tick event.now.number named.room.own.member named.room.own.id.items terms.now live
+        (E.best parts.old.engine) (E.buys parts.old.engine) (E.sells parts.old.engine) parts.old.orders.items }
+    requires here { named.found.number < length parts.old.orders.items }
+    requires copies { CopiesOwn named.room.own.member named.room.own.id.items named.room }
+    requires id { (is_used named.room.own.member named.room.own.id.items (used_of parts.old.ids.entries) ≡ false)
+        × (length named.room.own.id.items ≤ MAX_ID_BYTES) }
+    requires engine { E.ready parts.old.engine (Some (key_of tick terms.now))
+        × (E.latest parts.old.engine < event.now.number) }
+    requires agree { Agree E.buys E.sells E.best parts.old }
+    requires places { HasRoom (resting_in E.buys E.sells parts.old) parts.old }
+    ensures state { (live : Live)
+        → IsFoundAs parts.old.orders.items (rows_in E.buys E.sells parts.old) live named.found
+        → (enter (arrival_of_replace tick event.now.number named.room.own.member named.room.own.id.items
+        named.room.orig.id.items terms.now live (state_in E.buys E.sells parts.old))).state
+        ≡ state_in E.buys E.sells parts.new }
+    ensures reports { (live : Live)
+        → IsFoundAs parts.old.orders.items (rows_in E.buys E.sells parts.old) live named.found
+        → Reports event.now parts.old.log.list 1 (enter (arrival_of_replace tick event.now.number named.room.own.member
+        named.room.own.id.items named.room.orig.id.items terms.now live (state_in E.buys E.sells parts.old))).notices
+        parts.new.log.list result }
+    ensures entered { (live : Live)
+        → IsFoundAs parts.old.orders.items (rows_in E.buys E.sells parts.old) live named.found
+        → parts.new.entered.items ≡ slice_set parts.old.entered.items named.found.number (if_it_rests
+        (is_immediate terms.now)
+        (row_of tick event.now.number named.found.number named.room.own.member live.order.cum terms.now)) }
+    ensures ids { parts.new.ids.entries
+        ≡ with_id named.room.own.member named.room.own.id.items named.found.number parts.old.ids.entries }
+    ensures markets { parts.new.markets ≡ parts.old.markets }
+    ensures small { All IsSmall parts.new.orders.items }
+    ensures most { (live : Live)
+        → IsFoundAs parts.old.orders.items (rows_in E.buys E.sells parts.old) live named.found → steps.new
+        ≤ steps.old + 512 + 2048 * (E.width parts.old.engine + 1) * (examined_by_arrival
+        (arrival_of_replace tick event.now.number named.room.own.member named.room.own.id.items
+        named.room.orig.id.items terms.now live (state_in E.buys E.sells parts.old)) + 1) }
+    ensures best { E.best parts.new.engine ≡ E.best parts.old.engine }
+    ensures latest { E.latest parts.new.engine ≡ event.now.number }
 {
+    let Named { found, room } = named;
     let Room {
         own,
         order: copy,
         shown,
         orig,
     } = room;
-    set_terms(tick, orders, found.number, copy, terms);
-    let order = &orders[found.number as usize];
-    let row = entering_row(tick, event.number, found.number, member, order.cum, terms);
-    let price = price_now(engine, &row);
+    set_terms(tick, &mut parts.orders, found.number, copy, terms);
+    let order = &parts.orders[found.number as usize];
+    let row = entering_row(
+        tick,
+        event.number,
+        found.number,
+        own.member,
+        order.cum,
+        terms,
+    );
+    let price = price_now(&parts.engine, &row);
     let view = view_at(order, shown, price, row.entry);
-    engine.cut(&found.row, steps);
-    entered[found.number as usize] = kept_row(is_immediate(terms), row);
-    ids.push(own, found.number);
+    parts.engine.cut(&found.row, steps);
+    parts.entered[found.number as usize] = kept_row(is_immediate(terms), row);
+    parts.ids.push(own, found.number);
+    let execution = Execution::Replaced {
+        orig: Bytes(orig.id),
+    };
     enter(
-        engine,
-        orders,
-        log,
+        parts,
         event,
         row,
         is_immediate(terms),
-        member,
-        Kind::Order {
-            view,
-            execution: Execution::Replaced {
-                orig: Bytes(orig.id),
-            },
-        },
+        Kind::Order { view, execution },
         steps,
     )
 }
 
 /// A Replace that breaks no rule: the quantity changes, or the order enters anew.
-fn replace<E: Engine, L: Ledger>(
+fn replace<E: Engine + Drop, L: Ledger>(
     tick: u32,
-    engine: &mut E,
-    orders: &mut Vec<Order>,
-    entered: &mut Vec<Option<Row>>,
-    ids: &mut UsedIds,
-    log: &mut ReportLog,
+    parts: &mut Parts<E>,
     event: &Event,
-    member: u32,
     terms: &Terms,
-    room: Room,
-    found: Found,
+    named: Named,
     steps: &mut Steps<L>,
 ) -> u32
     requires tick { IsTick tick }
-    requires found { (live : Live) × IsFoundAs orders.old.items (E.buys engine.old ++ E.sells engine.old) live found
+    requires found { (live : Live)
+        × IsFoundAs parts.old.orders.items (rows_in E.buys E.sells parts.old) live named.found
         × (live.order.cum < quantity_of terms.now)
-        × ReplaceFits tick event.now.number member room.own.id.items terms.now live (E.best engine.old)
-        (E.buys engine.old) (E.sells engine.old) orders.old.items }
-    requires here { found.number < length orders.old.items }
-    requires count { length entered.old.items ≡ length orders.old.items }
-    requires owner { room.own.member ≡ member }
-    requires fresh { is_used member room.own.id.items (used_of ids.old.entries) ≡ false }
-    requires order { room.order ≡ room.own.id.items }
-    requires shown { room.shown ≡ room.own.id.items }
-    requires short { length room.own.id.items ≤ MAX_ID_BYTES }
-    requires ready { E.ready engine.old (Some (key_of tick terms.now)) }
-    requires later { E.latest engine.old < event.now.number }
-    requires small { All IsSmall orders.old.items }
-    requires id_room { 0 < ids.old.room }
-    requires few { length (E.buys engine.old) + length (E.sells engine.old) < 2 ^ 30 }
-    requires places { 2 * (length (E.buys engine.old) + length (E.sells engine.old)) + 4 ≤ log.old.places }
-    requires buffers { 2 * (length (E.buys engine.old) + length (E.sells engine.old)) + 3 ≤ log.old.buffers }
-    ensures state { (markets : List Best) (live : Live) → best_of markets ≡ E.best engine.old
-        → IsFoundAs orders.old.items (E.buys engine.old ++ E.sells engine.old) live found
-        → (replace tick event.now.number member room.own.id.items room.orig.id.items terms.now live (state_of markets
-        (E.buys engine.old) (E.sells engine.old) orders.old.items (used_of ids.old.entries))).state
-        ≡ state_of markets (E.buys engine.new) (E.sells engine.new) orders.new.items (used_of ids.new.entries) }
-    ensures reports { (markets : List Best) (live : Live) → best_of markets ≡ E.best engine.old
-        → IsFoundAs orders.old.items (E.buys engine.old ++ E.sells engine.old) live found
-        → Reports event.now log.old.list 1 (replace tick event.now.number member room.own.id.items room.orig.id.items
-        terms.now live (state_of markets (E.buys engine.old) (E.sells engine.old) orders.old.items
-        (used_of ids.old.entries))).notices log.new.list result }
-    ensures entered { (live : Live) → IsFoundAs orders.old.items (E.buys engine.old ++ E.sells engine.old) live found
-        → entered.new.items ≡ entered_by_replace tick event.now.number member terms.now live entered.old.items }
-    ensures ids { ids.new.entries ≡ with_id member room.own.id.items found.number ids.old.entries }
-    ensures small { All IsSmall orders.new.items }
-    ensures most { (markets : List Best) (live : Live) → best_of markets ≡ E.best engine.old
-        → IsFoundAs orders.old.items (E.buys engine.old ++ E.sells engine.old) live found → steps.new
-        ≤ steps.old + 2048 + 2048 * (E.width engine.old + 1) *
-        (examined_by_replace tick event.now.number member room.own.id.items room.orig.id.items terms.now live
-        (state_of markets (E.buys engine.old) (E.sells engine.old) orders.old.items (used_of ids.old.entries)) + 1) }
-    ensures best { E.best engine.new ≡ E.best engine.old }
-    ensures latest { E.latest engine.new ≤ event.now.number }
+        × ReplaceFits tick event.now.number named.room.own.member named.room.own.id.items terms.now live
+        (E.best parts.old.engine) (E.buys parts.old.engine) (E.sells parts.old.engine) parts.old.orders.items }
+    requires here { named.found.number < length parts.old.orders.items }
+    requires copies { CopiesOwn named.room.own.member named.room.own.id.items named.room }
+    requires id { (is_used named.room.own.member named.room.own.id.items (used_of parts.old.ids.entries) ≡ false)
+        × (length named.room.own.id.items ≤ MAX_ID_BYTES) }
+    requires engine { E.ready parts.old.engine (Some (key_of tick terms.now))
+        × (E.latest parts.old.engine < event.now.number) }
+    requires agree { Agree E.buys E.sells E.best parts.old }
+    requires places { HasRoom (resting_in E.buys E.sells parts.old) parts.old }
+    ensures state { (live : Live)
+        → IsFoundAs parts.old.orders.items (rows_in E.buys E.sells parts.old) live named.found
+        → (replace tick event.now.number named.room.own.member named.room.own.id.items named.room.orig.id.items
+        terms.now live (state_in E.buys E.sells parts.old)).state ≡ state_in E.buys E.sells parts.new }
+    ensures reports { (live : Live)
+        → IsFoundAs parts.old.orders.items (rows_in E.buys E.sells parts.old) live named.found
+        → Reports event.now parts.old.log.list 1 (replace tick event.now.number named.room.own.member
+        named.room.own.id.items named.room.orig.id.items terms.now live (state_in E.buys E.sells parts.old)).notices
+        parts.new.log.list result }
+    ensures entered { (live : Live)
+        → IsFoundAs parts.old.orders.items (rows_in E.buys E.sells parts.old) live named.found
+        → parts.new.entered.items ≡ entered_by_replace tick event.now.number named.room.own.member terms.now live
+        parts.old.entered.items }
+    ensures ids { parts.new.ids.entries
+        ≡ with_id named.room.own.member named.room.own.id.items named.found.number parts.old.ids.entries }
+    ensures markets { parts.new.markets ≡ parts.old.markets }
+    ensures small { All IsSmall parts.new.orders.items }
+    ensures most { (live : Live)
+        → IsFoundAs parts.old.orders.items (rows_in E.buys E.sells parts.old) live named.found → steps.new
+        ≤ steps.old + 2048 + 2048 * (E.width parts.old.engine + 1) * (examined_by_replace tick event.now.number
+        named.room.own.member named.room.own.id.items named.room.orig.id.items terms.now live
+        (state_in E.buys E.sells parts.old) + 1) }
+    ensures best { E.best parts.new.engine ≡ E.best parts.old.engine }
+    ensures latest { E.latest parts.new.engine ≤ event.now.number }
 {
-    if lowers(tick, terms, orders, &found) {
-        resize(
-            tick, engine, orders, ids, log, event, member, terms, room, found, steps,
-        )
+    if lowers(tick, terms, &parts.orders, &named.found) {
+        resize(tick, parts, event, terms, named, steps)
     } else {
-        reenter(
-            tick, engine, orders, entered, ids, log, event, member, terms, room, found, steps,
-        )
+        reenter(tick, parts, event, terms, named, steps)
     }
 }
 
 /// A Replace: it is refused, the quantity changes, or the order enters anew.
-pub fn on_replace<E: Engine, L: Ledger>(
+pub fn on_replace<E: Engine + Drop, L: Ledger>(
     tick: u32,
-    engine: &mut E,
-    orders: &mut Vec<Order>,
-    entered: &mut Vec<Option<Row>>,
-    ids: &mut UsedIds,
-    log: &mut ReportLog,
+    parts: &mut Parts<E>,
     event: &Event,
-    member: u32,
-    id: &Bytes,
-    orig: &Bytes,
     terms: &Terms,
     room: Room,
     steps: &mut Steps<L>,
 ) -> u32
     requires tick { IsTick tick }
-    requires command { event.now.command ≡ Replace member id.now orig.now terms.now }
-    requires own { CopiesOwn member id.now room }
-    requires orig { CopiesOrig member orig.now room }
-    requires kept { KeepsOrders entered.old.items orders.old.items
-        (E.buys engine.old ++ E.sells engine.old) ids.old.entries }
-    requires short { length id.now ≤ MAX_ID_BYTES }
-    requires fits { (live : Live) → live_named member orig.now orders.old.items
-        (E.buys engine.old ++ E.sells engine.old) ≡ Some live
-        → verdict (Replace member id.now orig.now terms.now) (known_of tick
-        (is_used member id.now (used_of ids.old.entries)) (Some live)) ≡ None
-        → (live.order.cum < quantity_of terms.now) × ReplaceFits tick event.now.number member id.now terms.now live
-        (E.best engine.old) (E.buys engine.old) (E.sells engine.old) orders.old.items }
-    requires ready { E.ready engine.old (Some (key_of tick terms.now)) }
-    requires later { E.latest engine.old < event.now.number }
-    requires id_room { 0 < ids.old.room }
-    requires few { length (E.buys engine.old) + length (E.sells engine.old) < 2 ^ 30 }
-    requires places { 2 * (length (E.buys engine.old) + length (E.sells engine.old)) + 4 ≤ log.old.places }
-    requires buffers { 2 * (length (E.buys engine.old) + length (E.sells engine.old)) + 3 ≤ log.old.buffers }
-    ensures worked { (markets : List Best) → best_of markets ≡ E.best engine.old
-        → IsWorked tick event.now (state_of markets (E.buys engine.old) (E.sells engine.old) orders.old.items
-        (used_of ids.old.entries)) entered.old.items ids.old.entries log.old.list (state_of markets
-        (E.buys engine.new) (E.sells engine.new) orders.new.items
-        (used_of ids.new.entries)) entered.new.items ids.new.entries log.new.list result }
-    ensures small { All IsSmall orders.new.items }
-    ensures most { (markets : List Best) → best_of markets ≡ E.best engine.old → steps.new
-        ≤ steps.old + 2048 + 2048 * (E.width engine.old + 1) * (examined tick
-        (state_of markets (E.buys engine.old) (E.sells engine.old) orders.old.items
-        (used_of ids.old.entries)) event.now.number event.now.command + 1) }
-    ensures idle { (steps.new ≡ steps.old) ⊎ (0 < length (E.buys engine.old ++ E.sells engine.old)) }
-    ensures best { E.best engine.new ≡ E.best engine.old }
-    ensures latest { E.latest engine.new ≤ event.now.number }
+    requires command { event.now.command ≡ Replace room.own.member room.own.id.items room.orig.id.items terms.now }
+    requires own { CopiesOwn room.own.member room.own.id.items room }
+    requires orig { room.orig.member ≡ room.own.member }
+    requires fits { CanWork tick event.now.number event.now.command (state_in E.buys E.sells parts.old) }
+    requires engine { E.ready parts.old.engine (Some (key_of tick terms.now))
+        × (E.latest parts.old.engine < event.now.number) }
+    requires agree { Agree E.buys E.sells E.best parts.old }
+    requires places { HasRoom (resting_in E.buys E.sells parts.old) parts.old }
+    ensures worked { AreWorked E.buys E.sells tick event.now parts.old parts.new result }
+    ensures markets { parts.new.markets ≡ parts.old.markets }
+    ensures small { All IsSmall parts.new.orders.items }
+    ensures most { steps.new ≤ steps.old + 2048 + 2048 * (E.width parts.old.engine + 1)
+        * (examined tick (state_in E.buys E.sells parts.old) event.now.number event.now.command + 1) }
+    ensures idle { (steps.new ≡ steps.old) ⊎ (0 < length (rows_in E.buys E.sells parts.old)) }
+    ensures best { E.best parts.new.engine ≡ E.best parts.old.engine }
+    ensures latest { E.latest parts.new.engine ≤ event.now.number }
 {
-    let live = find_live(ids, orders, entered, &room.orig);
-    match rule_of_request(tick, ids, &room.own, live, orders, event) {
-        Some(rule) => {
-            let Room {
-                own: _,
-                order: _,
-                shown,
-                orig,
-            } = room;
-            refuse(
-                log,
-                event,
-                member,
-                RefusedRequest::Replace,
-                shown,
-                Bytes(orig.id),
-                live,
-                orders,
-                rule,
-            )
-        }
+    let live = find_named(parts, &room);
+    match rule_of_request(tick, parts, &room, live, event) {
+        Some(rule) => refuse(parts, event, RefusedRequest::Replace, room, live, rule),
         None => match live {
-            Some(found) => replace(
-                tick, engine, orders, entered, ids, log, event, member, terms, room, found, steps,
-            ),
+            Some(found) => replace(tick, parts, event, terms, Named { found, room }, steps),
             None => 1,
         },
     }

@@ -1,19 +1,14 @@
 //! Status requests.
-ghost use Rattle.std.specs.Prelude.{◌≡◌, ◌+◌, ◌<◌, ◌≤◌, ◌++◌, List, Some, length, slice_get};
-ghost use Rattle.venue_words.specs.declared.price.Best.{Best};
+ghost use Rattle.std.specs.Prelude.{◌≡◌, ◌+◌, ◌<◌, ◌≤◌, ◌++◌, Some, length, slice_get};
 ghost use Rattle.eager_meaning.specs.Showing.{view_of, row_of_order};
 ghost use Rattle.eager_meaning.specs.Step.{on_status};
 ghost use Rattle.eager_meaning.specs.declared.order.Order.{Order};
-ghost use Rattle.symbol_book.specs.Book.{KeepsOrders};
-ghost use Rattle.symbol_book.specs.Ids.{used_of};
 ghost use Rattle.symbol_book.specs.Log.{Reports};
-ghost use Rattle.symbol_book.specs.Room.{CopiesOrig};
+ghost use Rattle.symbol_book.specs.Parts.{Agree, HasRoom, resting_in, state_in};
 ghost use Rattle.symbol_book.specs.Rows.{AreEntered};
-ghost use Rattle.symbol_book.specs.State.{state_of};
 
 use crate::finding::{live_row, number_of};
-use crate::ids::UsedIds;
-use crate::log::ReportLog;
+use crate::parts::Parts;
 use crate::room::Room;
 use crate::showing::{view_at, view_closed};
 use eager_meaning::Order;
@@ -49,29 +44,31 @@ fn view_now<E: Engine, L: Ledger>(
 
 /// A status request: the order is reported as it is, or as unknown.
 #[tactic(auto, unfolding(eager_meaning::specs::Step::on_status))]
-pub fn on_status<E: Engine, L: Ledger>(
-    engine: &E,
-    orders: &[Order],
-    entered: &[Option<Row>],
-    ids: &UsedIds,
-    log: &mut ReportLog,
+pub fn on_status<E: Engine + Drop, L: Ledger>(
+    parts: &mut Parts<E>,
     event: &Event,
-    member: u32,
     side: u8,
     room: Room,
     steps: &mut Steps<L>,
 ) -> u32
-    requires owner { room.orig.member ≡ member }
-    requires kept { KeepsOrders entered.now orders.now (E.buys engine.now ++ E.sells engine.now) ids.now.entries }
-    requires places { 0 < log.old.places }
-    ensures reports { (markets : List Best) → Reports event.now log.old.list 1
-        (on_status member room.orig.id.items side (state_of markets (E.buys engine.now)
-        (E.sells engine.now) orders.now (used_of ids.now.entries))).notices log.new.list result }
+    requires agree { Agree E.buys E.sells E.best parts.old }
+    requires places { HasRoom (resting_in E.buys E.sells parts.old) parts.old }
+    ensures reports { Reports event.now parts.old.log.list 1 (on_status room.orig.member room.orig.id.items side
+        (state_in E.buys E.sells parts.old)).notices parts.new.log.list result }
+    ensures rest { parts.new ≡ record parts.old { log = parts.new.log } }
     ensures most { steps.new ≤ steps.old + 512 }
 {
-    let kind = match number_of(ids, orders, &room.orig) {
+    let member = room.orig.member;
+    let kind = match number_of(&parts.ids, &parts.orders, &room.orig) {
         Some(number) => Kind::Order {
-            view: view_now(engine, orders, entered, number, Bytes(room.orig.id), steps),
+            view: view_now(
+                &parts.engine,
+                &parts.orders,
+                &parts.entered,
+                number,
+                Bytes(room.orig.id),
+                steps,
+            ),
             execution: Execution::Status,
         },
         None => Kind::Unknown {
@@ -79,5 +76,5 @@ pub fn on_status<E: Engine, L: Ledger>(
             side,
         },
     };
-    log.push(event, 1, member, kind)
+    parts.log.push(event, 1, member, kind)
 }

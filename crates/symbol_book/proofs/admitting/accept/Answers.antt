@@ -8,6 +8,6 @@ use Rattle.symbol_book.proofs.admitting.accept.Goals as goal
 -- all orders are small with the accepted one
 pub enter-requires-clause-small : goal.enter-requires-clause-small
 enter-requires-clause-small g c =
-    let short : length c.args.room.order ≤ MAX_ID_BYTES = subst (λ (id : List ℕ). length id ≤ MAX_ID_BYTES) (sym c.requires.copies.order) c.requires.short in
-    subst (All IsSmall) (sym (c.push_reserved.ensures.items ∙ ap (λ (order : Order). c.args.orders.now.items ++ order ∷ []) c.accepted_order-order.ensures.order))
-    (small_more c.args.tick c.args.event.now.number c.args.member c.args.room.order c.args.terms.now c.args.orders.now.items c.requires.small short)
+    let short : length c.args.room.order ≤ MAX_ID_BYTES = subst (λ (id : List ℕ). length id ≤ MAX_ID_BYTES) (sym c.requires.copies.order) c.requires.fits.0 in
+    subst (All IsSmall) (sym (c.push_reserved.ensures.items ∙ ap (λ (order : Order). c.args.parts.now.orders.items ++ order ∷ []) c.accepted_order-order.ensures.order))
+    (small_more c.args.tick c.args.event.now.number c.args.room.own.member c.args.room.order c.args.terms.now c.args.parts.now.orders.items c.requires.agree.kept.small short)

@@ -5,12 +5,13 @@ use Rattle.symbol_book.proofs.replacing.reenter.Goals as goal
 -- no more rows rest once one was taken out
 pub enter-requires-clause-few : goal.enter-requires-clause-few
 enter-requires-clause-few g c =
-    omega (arith, ap length c.cut.ensures.buys, ap length c.cut.ensures.sells, few_without c.args.found.row.entry (g.E.Engine.buys c.args.engine.now), few_without c.args.found.row.entry (g.E.Engine.sells c.args.engine.now))
+    let few = c.requires.agree.few in
+    omega (arith, few, ap length c.cut.ensures.buys, ap length c.cut.ensures.sells, few_without c.args.named.found.row.entry (g.E.Engine.buys c.args.parts.now.engine), few_without c.args.named.found.row.entry (g.E.Engine.sells c.args.parts.now.engine))
 
-pub enter-requires-clause-places : goal.enter-requires-clause-places
-enter-requires-clause-places g c =
-    omega (arith, ap length c.cut.ensures.buys, ap length c.cut.ensures.sells, few_without c.args.found.row.entry (g.E.Engine.buys c.args.engine.now), few_without c.args.found.row.entry (g.E.Engine.sells c.args.engine.now))
-
-pub enter-requires-clause-buffers : goal.enter-requires-clause-buffers
-enter-requires-clause-buffers g c =
-    omega (arith, ap length c.cut.ensures.buys, ap length c.cut.ensures.sells, few_without c.args.found.row.entry (g.E.Engine.buys c.args.engine.now), few_without c.args.found.row.entry (g.E.Engine.sells c.args.engine.now))
+pub enter-requires-clause-room : goal.enter-requires-clause-room
+enter-requires-clause-room g c =
+    let places = c.requires.places.places in
+    let buffers = c.requires.places.buffers in (
+      omega (arith, places, ap length c.cut.ensures.buys, ap length c.cut.ensures.sells, few_without c.args.named.found.row.entry (g.E.Engine.buys c.args.parts.now.engine), few_without c.args.named.found.row.entry (g.E.Engine.sells c.args.parts.now.engine)),
+      omega (arith, buffers, ap length c.cut.ensures.buys, ap length c.cut.ensures.sells, few_without c.args.named.found.row.entry (g.E.Engine.buys c.args.parts.now.engine), few_without c.args.named.found.row.entry (g.E.Engine.sells c.args.parts.now.engine)),
+    )

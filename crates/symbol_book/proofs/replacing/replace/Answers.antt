@@ -1,4 +1,4 @@
-use Rattle.std.proofs.Common.{◌≡◌, ◌+◌, ◌≤◌, ℕ, Bool, true, false, List, refl, sym, ap, ◌∙◌, subst, rules, arith}
+use Rattle.std.proofs.Common.{◌≡◌, ◌+◌, ◌≤◌, ℕ, Bool, true, false, List, sym, ap, ◌∙◌, subst, rules, arith}
 use Rattle.venue_words.specs.declared.command.Terms.{Terms}
 use Rattle.venue_words.specs.declared.row.Priced.{Priced}
 use Rattle.eager_meaning.specs.declared.order.Live.{Live}
@@ -6,9 +6,8 @@ use Rattle.eager_meaning.specs.declared.order.Order.{Order}
 use Rattle.eager_meaning.specs.Changing.{only_lowers}
 use Rattle.eager_meaning.specs.State.{State, Outcome}
 use Rattle.symbol_book.specs.Finding.{IsFoundAs}
-use Rattle.symbol_book.specs.Ids.{used_of}
 use Rattle.symbol_book.specs.Log.{Reports}
-use Rattle.symbol_book.specs.State.{state_of}
+use Rattle.symbol_book.specs.Parts.{state_in}
 use Rattle.symbol_book.specs.declared.finding.Found.{Found}
 use Rattle.symbol_book.proofs.Requests.{replace_lowers, replace_enters}
 use Rattle.symbol_book.proofs.replacing.replace.Goals as goal
@@ -20,52 +19,52 @@ tested tick terms named result b slice orders same each is rows live found =
     sym (each rows live (subst (λ (os : List Order). IsFoundAs os rows live named) (sym same) found)) ∙ is
 
 pub returns-then-lowers-clause-state : goal.returns-then-lowers-clause-state
-returns-then-lowers-clause-state g c = λ markets live best found.
-    let same : c.deref.result.now ≡ c.args.orders.now.items = search rules in
-    let s : State = state_of markets (g.E.Engine.buys c.args.engine.now) (g.E.Engine.sells c.args.engine.now) c.args.orders.now.items (used_of c.args.ids.now.entries) in
-    let e = tested c.args.tick c.args.terms.now c.args.found _ true c.deref.result.now c.args.orders.now.items same c.lowers.ensures c.if-lowers.true _ live found in
-    ap (λ (o : Outcome). o.state) (replace_lowers c.args.tick c.args.event.now.number c.args.member c.args.room.own.id.items c.args.room.orig.id.items c.args.terms.now live s e) ∙ c.resize.ensures.state markets live found
+returns-then-lowers-clause-state g c = λ live found.
+    let same : c.deref.result.now ≡ c.args.parts.now.orders.items = search rules in
+    let s : State = state_in g.E.Engine.buys g.E.Engine.sells c.args.parts.now in
+    let e = tested c.args.tick c.args.terms.now c.args.named.found _ true c.deref.result.now c.args.parts.now.orders.items same c.lowers.ensures c.if-lowers.true _ live found in
+    ap (λ (o : Outcome). o.state) (replace_lowers c.args.tick c.args.event.now.number c.args.named.room.own.member c.args.named.room.own.id.items c.args.named.room.orig.id.items c.args.terms.now live s e) ∙ c.resize.ensures.state live found
 
 pub returns-then-lowers-clause-reports : goal.returns-then-lowers-clause-reports
-returns-then-lowers-clause-reports g c = λ markets live best found.
-    let same : c.deref.result.now ≡ c.args.orders.now.items = search rules in
-    let s : State = state_of markets (g.E.Engine.buys c.args.engine.now) (g.E.Engine.sells c.args.engine.now) c.args.orders.now.items (used_of c.args.ids.now.entries) in
-    let e = tested c.args.tick c.args.terms.now c.args.found _ true c.deref.result.now c.args.orders.now.items same c.lowers.ensures c.if-lowers.true _ live found in
-    subst (λ (o : Outcome). Reports c.args.event.now c.args.log.now.list 1 o.notices c.resize.new.log.list c.resize.result)
-    (sym (replace_lowers c.args.tick c.args.event.now.number c.args.member c.args.room.own.id.items c.args.room.orig.id.items c.args.terms.now live s e)) (c.resize.ensures.reports markets live found)
+returns-then-lowers-clause-reports g c = λ live found.
+    let same : c.deref.result.now ≡ c.args.parts.now.orders.items = search rules in
+    let s : State = state_in g.E.Engine.buys g.E.Engine.sells c.args.parts.now in
+    let e = tested c.args.tick c.args.terms.now c.args.named.found _ true c.deref.result.now c.args.parts.now.orders.items same c.lowers.ensures c.if-lowers.true _ live found in
+    subst (λ (o : Outcome). Reports c.args.event.now c.args.parts.now.log.list 1 o.notices c.resize.new.parts.log.list c.resize.result)
+    (sym (replace_lowers c.args.tick c.args.event.now.number c.args.named.room.own.member c.args.named.room.own.id.items c.args.named.room.orig.id.items c.args.terms.now live s e)) (c.resize.ensures.reports live found)
 
 pub returns-then-lowers-clause-entered : goal.returns-then-lowers-clause-entered
 returns-then-lowers-clause-entered g c = λ live found.
-    let same : c.deref.result.now ≡ c.args.orders.now.items = search rules in
-    let e = tested c.args.tick c.args.terms.now c.args.found _ true c.deref.result.now c.args.orders.now.items same c.lowers.ensures c.if-lowers.true _ live found in
-    rw e refl
+    let same : c.deref.result.now ≡ c.args.parts.now.orders.items = search rules in
+    let e = tested c.args.tick c.args.terms.now c.args.named.found _ true c.deref.result.now c.args.parts.now.orders.items same c.lowers.ensures c.if-lowers.true _ live found in
+    rw e c.resize.ensures.entered
 
 pub returns-else-lowers-clause-state : goal.returns-else-lowers-clause-state
-returns-else-lowers-clause-state g c = λ markets live best found.
-    let same : c.deref.result.now ≡ c.args.orders.now.items = search rules in
-    let s : State = state_of markets (g.E.Engine.buys c.args.engine.now) (g.E.Engine.sells c.args.engine.now) c.args.orders.now.items (used_of c.args.ids.now.entries) in
-    let e = tested c.args.tick c.args.terms.now c.args.found _ false c.deref.result.now c.args.orders.now.items same c.lowers.ensures c.if-lowers.false _ live found in
-    ap (λ (o : Outcome). o.state) (replace_enters c.args.tick c.args.event.now.number c.args.member c.args.room.own.id.items c.args.room.orig.id.items c.args.terms.now live s e) ∙ c.reenter.ensures.state markets live best found
+returns-else-lowers-clause-state g c = λ live found.
+    let same : c.deref.result.now ≡ c.args.parts.now.orders.items = search rules in
+    let s : State = state_in g.E.Engine.buys g.E.Engine.sells c.args.parts.now in
+    let e = tested c.args.tick c.args.terms.now c.args.named.found _ false c.deref.result.now c.args.parts.now.orders.items same c.lowers.ensures c.if-lowers.false _ live found in
+    ap (λ (o : Outcome). o.state) (replace_enters c.args.tick c.args.event.now.number c.args.named.room.own.member c.args.named.room.own.id.items c.args.named.room.orig.id.items c.args.terms.now live s e) ∙ c.reenter.ensures.state live found
 
 pub returns-else-lowers-clause-reports : goal.returns-else-lowers-clause-reports
-returns-else-lowers-clause-reports g c = λ markets live best found.
-    let same : c.deref.result.now ≡ c.args.orders.now.items = search rules in
-    let s : State = state_of markets (g.E.Engine.buys c.args.engine.now) (g.E.Engine.sells c.args.engine.now) c.args.orders.now.items (used_of c.args.ids.now.entries) in
-    let e = tested c.args.tick c.args.terms.now c.args.found _ false c.deref.result.now c.args.orders.now.items same c.lowers.ensures c.if-lowers.false _ live found in
-    subst (λ (o : Outcome). Reports c.args.event.now c.args.log.now.list 1 o.notices c.reenter.new.log.list c.reenter.result)
-    (sym (replace_enters c.args.tick c.args.event.now.number c.args.member c.args.room.own.id.items c.args.room.orig.id.items c.args.terms.now live s e)) (c.reenter.ensures.reports markets live best found)
+returns-else-lowers-clause-reports g c = λ live found.
+    let same : c.deref.result.now ≡ c.args.parts.now.orders.items = search rules in
+    let s : State = state_in g.E.Engine.buys g.E.Engine.sells c.args.parts.now in
+    let e = tested c.args.tick c.args.terms.now c.args.named.found _ false c.deref.result.now c.args.parts.now.orders.items same c.lowers.ensures c.if-lowers.false _ live found in
+    subst (λ (o : Outcome). Reports c.args.event.now c.args.parts.now.log.list 1 o.notices c.reenter.new.parts.log.list c.reenter.result)
+    (sym (replace_enters c.args.tick c.args.event.now.number c.args.named.room.own.member c.args.named.room.own.id.items c.args.named.room.orig.id.items c.args.terms.now live s e)) (c.reenter.ensures.reports live found)
 
 pub returns-else-lowers-clause-entered : goal.returns-else-lowers-clause-entered
 returns-else-lowers-clause-entered g c = λ live found.
-    let same : c.deref.result.now ≡ c.args.orders.now.items = search rules in
-    let e = tested c.args.tick c.args.terms.now c.args.found _ false c.deref.result.now c.args.orders.now.items same c.lowers.ensures c.if-lowers.false _ live found in
+    let same : c.deref.result.now ≡ c.args.parts.now.orders.items = search rules in
+    let e = tested c.args.tick c.args.terms.now c.args.named.found _ false c.deref.result.now c.args.parts.now.orders.items same c.lowers.ensures c.if-lowers.false _ live found in
     rw (e, found.number) (c.reenter.ensures.entered live found)
 
 pub returns-else-lowers-clause-most : goal.returns-else-lowers-clause-most
-returns-else-lowers-clause-most g c = λ markets live best found.
-    let same : c.deref.result.now ≡ c.args.orders.now.items = search rules in
-    let e = tested c.args.tick c.args.terms.now c.args.found _ false c.deref.result.now c.args.orders.now.items same c.lowers.ensures c.if-lowers.false _ live found in
-    rw e (more _ _ _ (c.reenter.ensures.most markets live best found))
+returns-else-lowers-clause-most g c = λ live found.
+    let same : c.deref.result.now ≡ c.args.parts.now.orders.items = search rules in
+    let e = tested c.args.tick c.args.terms.now c.args.named.found _ false c.deref.result.now c.args.parts.now.orders.items same c.lowers.ensures c.if-lowers.false _ live found in
+    rw e (more _ _ _ (c.reenter.ensures.most live found))
   where
     more : (after before rest : ℕ) → after ≤ before + 512 + rest → after ≤ before + 2048 + rest
     more after before rest h = omega arith

@@ -12,66 +12,34 @@ work-requires-clause-fits g c =
     let next : c.args.event.number ≡ length c.self.inside.journal.items + 1 = c.requires.number ∙ ap (λ (v : BookView). length v.journal + 1) (sym c.self.view_is) in
     can_work c.quote_trades_fit.ensures c.new_trades_fit.ensures c.replace_trades_fit.ensures _ _ _ kept.numbered _ c.args.event.number c.args.event.command kept.state next takes
 
-pub work-requires-clause-kept : goal.work-requires-clause-kept
-work-requires-clause-kept g c = keeps_orders _ _ _ _ _ _ _ _ _ _ _ _ c.self.invariant.0 c.rows_stand.ensures
+pub work-requires-clause-agree : goal.work-requires-clause-agree
+work-requires-clause-agree g c =
+    let kept = c.self.invariant.0 in
+    let few = few_orders _ _ _ _ _ _ _ _ _ _ _ _ kept c.book_is_sound.ensures in
+    record {
+      quote = kept.quote;
+      kept = keeps_orders _ _ _ _ _ _ _ _ _ _ _ _ kept c.rows_stand.ensures;
+      few_orders = omega (arith, few.0, few.1, kept.short, kept.limits);
+      few = omega (arith, few.0, few.1, kept.short, kept.limits);
+    }
 
 pub work-requires-clause-narrow : goal.work-requires-clause-narrow
 work-requires-clause-narrow g c =
     let is_ready : c.self.inside.ready ≡ Some (key_for c.self.inside.tick c.args.event.command) =
     ap (λ (v : BookView). v.ready) c.self.view_is ∙ (c.requires.ready ∙ ap (λ (v : BookView). Some (key_for v.tick c.args.event.command)) (sym c.self.view_is)) in
-    (c.self.invariant.1 _ is_ready).2
-
-pub work-requires-clause-order_room : goal.work-requires-clause-order_room
-work-requires-clause-order_room g c =
-    let is_ready : c.self.inside.ready ≡ Some (key_for c.self.inside.tick c.args.event.command) =
-    ap (λ (v : BookView). v.ready) c.self.view_is ∙ (c.requires.ready ∙ ap (λ (v : BookView). Some (key_for v.tick c.args.event.command)) (sym c.self.view_is)) in
-    let places = (c.self.invariant.1 _ is_ready).1 in
-    let h = places.orders in omega arith
-
-pub work-requires-clause-row_room : goal.work-requires-clause-row_room
-work-requires-clause-row_room g c =
-    let is_ready : c.self.inside.ready ≡ Some (key_for c.self.inside.tick c.args.event.command) =
-    ap (λ (v : BookView). v.ready) c.self.view_is ∙ (c.requires.ready ∙ ap (λ (v : BookView). Some (key_for v.tick c.args.event.command)) (sym c.self.view_is)) in
-    let places = (c.self.invariant.1 _ is_ready).1 in
-    let h = places.rows_room in omega arith
-
-pub work-requires-clause-id_room : goal.work-requires-clause-id_room
-work-requires-clause-id_room g c =
-    let is_ready : c.self.inside.ready ≡ Some (key_for c.self.inside.tick c.args.event.command) =
-    ap (λ (v : BookView). v.ready) c.self.view_is ∙ (c.requires.ready ∙ ap (λ (v : BookView). Some (key_for v.tick c.args.event.command)) (sym c.self.view_is)) in
-    let places = (c.self.invariant.1 _ is_ready).1 in
-    places.ids
+    (c.self.invariant.1 _ is_ready).3
 
 pub work-requires-clause-places : goal.work-requires-clause-places
 work-requires-clause-places g c =
     let is_ready : c.self.inside.ready ≡ Some (key_for c.self.inside.tick c.args.event.command) =
     ap (λ (v : BookView). v.ready) c.self.view_is ∙ (c.requires.ready ∙ ap (λ (v : BookView). Some (key_for v.tick c.args.event.command)) (sym c.self.view_is)) in
-    let places = (c.self.invariant.1 _ is_ready).1 in
-    places.places
-
-pub work-requires-clause-buffers : goal.work-requires-clause-buffers
-work-requires-clause-buffers g c =
-    let is_ready : c.self.inside.ready ≡ Some (key_for c.self.inside.tick c.args.event.command) =
-    ap (λ (v : BookView). v.ready) c.self.view_is ∙ (c.requires.ready ∙ ap (λ (v : BookView). Some (key_for v.tick c.args.event.command)) (sym c.self.view_is)) in
-    let places = (c.self.invariant.1 _ is_ready).1 in
-    places.buffers
-
-pub work-requires-clause-few_orders : goal.work-requires-clause-few_orders
-work-requires-clause-few_orders g c =
-    let few = few_orders _ _ _ _ _ _ _ _ _ _ _ _ c.self.invariant.0 c.book_is_sound.ensures in
-    omega (arith, few.0, few.1, c.self.invariant.0.short, c.self.invariant.0.limits)
-
-pub work-requires-clause-few : goal.work-requires-clause-few
-work-requires-clause-few g c =
-    let few = few_orders _ _ _ _ _ _ _ _ _ _ _ _ c.self.invariant.0 c.book_is_sound.ensures in
-    omega (arith, few.0, few.1, c.self.invariant.0.short, c.self.invariant.0.limits)
+    (c.self.invariant.1 _ is_ready).1
 
 pub push_reserved-requires : goal.push_reserved-requires
 push_reserved-requires g c =
     let is_ready : c.self.inside.ready ≡ Some (key_for c.self.inside.tick c.args.event.command) =
     ap (λ (v : BookView). v.ready) c.self.view_is ∙ (c.requires.ready ∙ ap (λ (v : BookView). Some (key_for v.tick c.args.event.command)) (sym c.self.view_is)) in
-    let places = (c.self.invariant.1 _ is_ready).1 in
-    let h = places.events in omega arith
+    (c.self.invariant.1 _ is_ready).2
 
 pub invariant_of-self : goal.invariant_of-self
 invariant_of-self g c =
