@@ -117,34 +117,43 @@ fn rest<S: SideBook, L: Ledger>(
     put_left(own, spare, after(row, shares), steps);
 }
 
+/// A row that enters, the quote that prices it, and whether it stays only to trade at once.
+#[derive(Clone, Copy)]
+pub struct Entering {
+    pub row: Row,
+    pub quote: Best,
+    pub immediate: bool,
+}
+
 /// A row enters its own side, after it walked through the other one. Answers whether shares are left of it.
 pub fn enter_row<S: SideBook, L: Ledger>(
     own: &mut S,
     other: &mut S,
     scratch: &mut Scratch,
     spare: &mut Option<Box<Node>>,
-    row: Row,
-    quote: Best,
-    immediate: bool,
+    enters: Entering,
     steps: &mut Steps<L>,
 ) -> bool
-    requires row { IsRow row }
-    requires leaves { 0 < row.leaves }
-    requires quote { (S.state own.old).best ≡ quote }
+    requires row { IsRow enters.row × (0 < enters.row.leaves) }
+    requires quote { (S.state own.old).best ≡ enters.quote }
     requires others_full { AllByRecursion HasLeaves (S.state other.old).rows }
-    requires clear { IsClear scratch.old }
-    requires ready { IsReady (length (S.state own.old).rows + length (S.state other.old).rows) scratch.old }
+    requires scratch { IsClear scratch.old
+        × IsReady (length (S.state own.old).rows + length (S.state other.old).rows) scratch.old }
     requires spare { IsSome spare.old }
-    requires room { S.row_room own.old row.key }
-    requires later { IsLaterThan (S.state own.old) row.entry }
-    requires last { AllByRecursion (λ x. x.row.entry < row.entry) (S.state own.old).rows }
+    requires room { S.row_room own.old enters.row.key }
+    requires later { IsLaterThan (S.state own.old) enters.row.entry }
+    requires last { AllByRecursion (λ x. x.row.entry < enters.row.entry) (S.state own.old).rows }
     ensures own { (S.state own.new).rows
-        ≡ (entered (priced_at quote row) immediate (S.state own.old).rows (S.state other.old).rows).own }
+        ≡ (entered (priced_at enters.quote enters.row) enters.immediate (S.state own.old).rows
+        (S.state other.old).rows).own }
     ensures others { (S.state other.new).rows
-        ≡ (entered (priced_at quote row) immediate (S.state own.old).rows (S.state other.old).rows).others }
+        ≡ (entered (priced_at enters.quote enters.row) enters.immediate (S.state own.old).rows
+        (S.state other.old).rows).others }
     ensures fills { scratch.new.fills.items
-        ≡ (entered (priced_at quote row) immediate (S.state own.old).rows (S.state other.old).rows).fills }
-    ensures left { result ≡ nat_lt 0 (row.leaves - total_of (takes_of (priced_at quote row) (S.state other.old).rows)) }
+        ≡ (entered (priced_at enters.quote enters.row) enters.immediate (S.state own.old).rows
+        (S.state other.old).rows).fills }
+    ensures left { result ≡ nat_lt 0 (enters.row.leaves
+        - total_of (takes_of (priced_at enters.quote enters.row) (S.state other.old).rows)) }
     ensures few { length scratch.new.fills.items + (length (S.state own.new).rows + length (S.state other.new).rows)
         ≤ length (S.state own.old).rows + length (S.state other.old).rows + 1 }
     ensures clear { IsClear scratch.new }
@@ -155,12 +164,19 @@ pub fn enter_row<S: SideBook, L: Ledger>(
     ensures other_event { (S.state other.new).event ≡ (S.state other.old).event }
     ensures other_width { S.width other.new ≡ S.width other.old }
     ensures most { steps.new ≤ steps.old + 1536 * (S.width other.old + 1)
-        * examined_by (priced_at quote row) (S.state other.old).rows + 512 }
+        * examined_by (priced_at enters.quote enters.row) (S.state other.old).rows + 512 }
 {
-    let taker = price_at(row, quote);
+    let taker = price_at(enters.row, enters.quote);
     let walked = walk_in(&taker, other, &mut scratch.aside, &mut scratch.fills, steps);
-    rest(own, spare, row, walked.shares, immediate, steps);
-    walked.shares < row.leaves
+    rest(
+        own,
+        spare,
+        enters.row,
+        walked.shares,
+        enters.immediate,
+        steps,
+    );
+    walked.shares < enters.row.leaves
 }
 
 /// A row enters its side of a book.
@@ -169,37 +185,36 @@ pub fn enter_on<S: SideBook, L: Ledger>(
     sells: &mut S,
     scratch: &mut Scratch,
     spare: &mut Option<Box<Node>>,
-    row: Row,
-    quote: Best,
-    immediate: bool,
+    enters: Entering,
     steps: &mut Steps<L>,
 ) -> bool
-    requires row { IsRow row }
-    requires leaves { 0 < row.leaves }
-    requires sides { (latest : ℕ) × AreSides quote latest (S.state buys.old) (S.state sells.old) × (latest < row.entry) }
+    requires row { IsRow enters.row × (0 < enters.row.leaves) }
+    requires sides { (latest : ℕ) × AreSides enters.quote latest (S.state buys.old) (S.state sells.old)
+        × (latest < enters.row.entry) }
     requires clear { IsClear scratch.old }
     requires ready { IsReady (length (S.state buys.old).rows + length (S.state sells.old).rows) scratch.old }
     requires spare { IsSome spare.old }
-    requires room { OnSide row.key.side (S.row_room buys.old row.key) (S.row_room sells.old row.key) }
-    ensures buys { (S.state buys.new).rows ≡ own_of row.key.side
-        (entered_rows quote row immediate (S.state buys.old).rows (S.state sells.old).rows).own
-        (entered_rows quote row immediate (S.state buys.old).rows (S.state sells.old).rows).others }
-    ensures sells { (S.state sells.new).rows ≡ others_of row.key.side
-        (entered_rows quote row immediate (S.state buys.old).rows (S.state sells.old).rows).own
-        (entered_rows quote row immediate (S.state buys.old).rows (S.state sells.old).rows).others }
+    requires room { OnSide enters.row.key.side (S.row_room buys.old enters.row.key) (S.row_room sells.old enters.row.key) }
+    ensures buys { (S.state buys.new).rows ≡ own_of enters.row.key.side
+        (entered_rows enters.quote enters.row enters.immediate (S.state buys.old).rows (S.state sells.old).rows).own
+        (entered_rows enters.quote enters.row enters.immediate (S.state buys.old).rows (S.state sells.old).rows).others }
+    ensures sells { (S.state sells.new).rows ≡ others_of enters.row.key.side
+        (entered_rows enters.quote enters.row enters.immediate (S.state buys.old).rows (S.state sells.old).rows).own
+        (entered_rows enters.quote enters.row enters.immediate (S.state buys.old).rows (S.state sells.old).rows).others }
     ensures fills { scratch.new.fills.items
-        ≡ (entered_rows quote row immediate (S.state buys.old).rows (S.state sells.old).rows).fills }
-    ensures left { result ≡ nat_lt 0 (row.leaves - total_of (takes_of (priced_at quote row)
-        (others_of row.key.side (S.state buys.old).rows (S.state sells.old).rows))) }
+        ≡ (entered_rows enters.quote enters.row enters.immediate (S.state buys.old).rows (S.state sells.old).rows).fills }
+    ensures left { result ≡ nat_lt 0 (enters.row.leaves - total_of (takes_of (priced_at enters.quote enters.row)
+        (others_of enters.row.key.side (S.state buys.old).rows (S.state sells.old).rows))) }
     ensures few { length scratch.new.fills.items + (length (S.state buys.new).rows + length (S.state sells.new).rows)
         ≤ length (S.state buys.old).rows + length (S.state sells.old).rows + 1 }
-    ensures sides { AreSides quote row.entry (S.state buys.new) (S.state sells.new) }
+    ensures sides { AreSides enters.quote enters.row.entry (S.state buys.new) (S.state sells.new) }
     ensures clear { IsClear scratch.new }
     ensures most { steps.new ≤ steps.old + 2048 * (S.width buys.old + S.width sells.old + 1) * (examined_by
-        (priced_at quote row) (others_of row.key.side (S.state buys.old).rows (S.state sells.old).rows) + 1) }
+        (priced_at enters.quote enters.row)
+        (others_of enters.row.key.side (S.state buys.old).rows (S.state sells.old).rows) + 1) }
 {
-    match row.key.side {
-        Side::Buy => enter_row(buys, sells, scratch, spare, row, quote, immediate, steps),
-        Side::Sell => enter_row(sells, buys, scratch, spare, row, quote, immediate, steps),
+    match enters.row.key.side {
+        Side::Buy => enter_row(buys, sells, scratch, spare, enters, steps),
+        Side::Sell => enter_row(sells, buys, scratch, spare, enters, steps),
     }
 }

@@ -2,7 +2,7 @@
 
 use crate::changing::{cut_in, lower_in, price_in};
 use crate::engine::Engine;
-use crate::entering::enter_on;
+use crate::entering::{Entering, enter_on};
 use crate::narrow::NarrowSide;
 use crate::rechecking::requote_both;
 use crate::reserving::{make_spare, narrow_both, reserve_both};
@@ -147,9 +147,11 @@ impl<S: NarrowSide + Drop> Engine for Sides<S> {
             &mut self.sells,
             &mut self.scratch,
             &mut self.spare,
-            row,
-            self.best,
-            immediate,
+            Entering {
+                row,
+                quote: self.best,
+                immediate,
+            },
             steps,
         );
         self.latest = row.entry;
