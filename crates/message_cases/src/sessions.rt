@@ -3,9 +3,8 @@ use case_text::{Told, Words};
 use fix_fields::moment;
 use fix_frames::{Framer, Next};
 use fix_write::wrap;
-use session_core::{Input, Kept, Message, Request, Session, Turn};
+use session_core::{Input, Message, Request, Session, Turn};
 use std::alloc::Global;
-use std::mem::size_of;
 use venue_words::limits::MAX_FRAME_BYTES;
 use venue_words::{Bytes, Items, NoMemory};
 
@@ -175,7 +174,6 @@ pub fn play(desk: &mut Desk, word: &str, input: &[u8], told: &mut Told) -> Resul
         "feed" => desk.feed(input, told)?,
         "hear" => desk.hear(input, told)?,
         "inputs" => desk.work_all(told)?,
-        "kept_bytes" => told.value(&size_of::<Option<Box<Kept>>>()),
         _ => return Ok(false),
     }
     Ok(true)

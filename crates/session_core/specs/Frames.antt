@@ -1,5 +1,5 @@
 -- The frames of messages with new numbers, and what is kept of these.
-use Rattle.std.specs.Prelude.{ℕ, ◌+◌, List, [], ◌∷◌, length, map, replicate, Option, Some, None, codes, ℤ}
+use Rattle.std.specs.Prelude.{ℕ, ◌+◌, List, [], ◌∷◌, length, map, replicate, Option, Some, None, ℤ}
 use Rattle.venue_words.specs.Limits.{venue}
 use Rattle.fix_write.specs.Framing.{frame_of}
 use Rattle.session_core.specs.declared.message.Kept.{Kept}

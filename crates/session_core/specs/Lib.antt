@@ -16,6 +16,7 @@ pub mod Plan
 pub mod Resend
 pub mod Resent
 pub mod Runs
+pub mod Sent
 pub mod Sequence
 pub mod State
 pub mod Tables

@@ -1,5 +1,5 @@
 -- The frames of messages that are sent again.
-use Rattle.std.specs.Prelude.{ℕ, ◌+◌, ◌-◌, List, [], ◌∷◌, ◌++◌, take, drop, map, Option, Some, None, unwrap_or, codes, ℤ}
+use Rattle.std.specs.Prelude.{ℕ, ◌+◌, ◌-◌, List, [], ◌∷◌, ◌++◌, take, drop, map, Option, Some, None, unwrap_or, ℤ}
 use Rattle.venue_words.specs.Limits.{venue}
 use Rattle.fix_write.specs.Framing.{frame_of}
 use Rattle.session_core.specs.declared.message_types.TheConstants.{SEQUENCE_RESET}

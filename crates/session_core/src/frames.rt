@@ -1,8 +1,9 @@
-//! The frames of messages with new numbers, and what is kept of these.
-ghost use Rattle.std.specs.Prelude.{◌≡◌, ◌<◌, ◌+◌, ◌^◌, ◌++◌, IfOk, OnOk, OnErr, length};
-ghost use Rattle.session_core.specs.Frames.{new_frame, new_frames, kept, all_kept, numbers};
+//! The frames of messages with new numbers.
+ghost use Rattle.std.specs.Prelude.{◌≡◌, ◌<◌, ◌+◌, ◌^◌, ◌++◌, IfOk, OnOk, length};
+ghost use Rattle.session_core.specs.Bodies.{message};
+ghost use Rattle.session_core.specs.Frames.{new_frame, new_frames};
 
-use crate::message::{Entry, Message};
+use crate::message::Message;
 use fix_write::{Head, frame};
 use std::alloc::Global;
 use venue_words::limits::VENUE;
@@ -15,19 +16,20 @@ pub fn new_frame(
     member: &[u8],
     moment: i64,
     number: u64,
-    message: &Message,
+    kind: u8,
+    body: &[u8],
 ) -> Result<Bytes, NoMemory>
-    ensures { IfOk result (λ f. f ≡ new_frame member.now moment number message.now) }
+    ensures { IfOk result (λ f. f ≡ new_frame member.now moment number (message kind body.now)) }
 {
     let head = Head {
-        kind: message.kind,
+        kind,
         sender: VENUE,
         target: member,
         number,
         moment,
         first_sent: None,
     };
-    Ok(Bytes(frame(alloc, &head, message.body.as_slice())?))
+    Ok(Bytes(frame(alloc, &head, body)?))
 }
 
 /// Adds the frames of messages, numbered from this number on.
@@ -45,38 +47,9 @@ pub fn push_new_frames(
     let alloc = *frames.allocator();
     let mut number = first;
     for message in messages {
-        frames.push(new_frame(alloc, member, moment, number, message)?)?;
+        let body = message.body.as_slice();
+        frames.push(new_frame(alloc, member, moment, number, message.kind, body)?)?;
         number += 1;
     }
     Ok(())
-}
-
-/// Keeps the numbers of so many messages of the session. Nothing changes where memory is wanted.
-pub fn push_numbers(sent: &mut Vec<Entry>, count: usize) -> Result<(), NoMemory>
-    ensures ok { OnOk result (sent.new.items ≡ sent.old.items ++ numbers count) }
-    ensures err { OnErr result (sent.new.items ≡ sent.old.items) }
-{
-    sent.reserve(count)?;
-    for i in 0..count {
-        sent.push_reserved(Entry::of_session());
-    }
-    Ok(())
-}
-
-/// What is kept of a copy of an application message.
-fn entry_of(alloc: Global, moment: i64, message: &Message) -> Result<Entry, NoMemory>
-    ensures { IfOk result (λ entry. entry ≡ kept moment message.now) }
-{
-    Entry::of_application(alloc, message.copy(alloc)?, moment)
-}
-
-/// What is kept of application messages.
-pub fn entries_of(alloc: Global, moment: i64, messages: &[Message]) -> Result<Vec<Entry>, NoMemory>
-    ensures { IfOk result (λ entries. entries.items ≡ all_kept moment messages.now) }
-{
-    let mut entries = Vec::with_capacity(alloc, messages.len())?;
-    for message in messages {
-        entries.push(entry_of(alloc, moment, message)?)?;
-    }
-    Ok(entries)
 }

@@ -18,6 +18,7 @@ pub mod reasons;
 mod resend;
 mod resent;
 mod runs;
+mod sent;
 mod sequence;
 mod session;
 mod state;

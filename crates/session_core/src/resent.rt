@@ -1,11 +1,11 @@
 //! The frames of messages that are sent again.
-ghost use Rattle.std.specs.Prelude.{◌≡◌, ◌<◌, ◌+◌, ◌^◌, ◌++◌, IfOk, OnOk, None, length, take, drop};
+ghost use Rattle.std.specs.Prelude.{◌≡◌, ◌++◌, IfOk, OnOk, None};
 ghost use Rattle.session_core.specs.Resent.{old_frame, gap_frame, gap_before, frames_at, run_behind, frames_from, part_of, frames_of_span};
 
 use crate::bodies::gap_body;
-use crate::message::{Entry, Kept};
 use crate::message_types::SEQUENCE_RESET;
 use crate::plan::Span;
+use crate::sent::{SentMessages, Stored};
 use fix_write::{Head, frame};
 use std::alloc::Global;
 use venue_words::limits::VENUE;
@@ -18,19 +18,19 @@ fn old_frame(
     member: &[u8],
     moment: i64,
     number: u64,
-    kept: &Kept,
+    kept: &Stored<'_>,
 ) -> Result<Bytes, NoMemory>
     ensures { IfOk result (λ f. f ≡ old_frame member.now moment number kept.now) }
 {
     let head = Head {
-        kind: kept.message.kind,
+        kind: kept.kind,
         sender: VENUE,
         target: member,
         number,
         moment,
         first_sent: Some(kept.moment),
     };
-    Ok(Bytes(frame(alloc, &head, kept.message.body.as_slice())?))
+    Ok(Bytes(frame(alloc, &head, kept.body)?))
 }
 
 /// The SequenceReset that stands for a run of messages of the session, up to before a number.
@@ -80,75 +80,47 @@ fn push_entry(
     moment: i64,
     run: Option<u64>,
     number: u64,
-    entry: &Entry,
+    entry: Option<Stored<'_>>,
 ) -> Result<Option<u64>, NoMemory>
     ensures frames { OnOk result (frames.new.items
-        ≡ frames.old.items ++ frames_at member.now moment run number entry.now) }
-    ensures run { IfOk result (λ r. r ≡ run_behind run number entry.now) }
+        ≡ frames.old.items ++ frames_at member.now moment run number entry.entry) }
+    ensures run { IfOk result (λ r. r ≡ run_behind run number entry.entry) }
 {
-    match entry.kept() {
+    match entry {
         None => Ok(Some(run.unwrap_or(number))),
         Some(kept) => {
             push_gap(frames, member, moment, run, number)?;
             let alloc = *frames.allocator();
-            frames.push(old_frame(alloc, member, moment, number, kept)?)?;
+            frames.push(old_frame(alloc, member, moment, number, &kept)?)?;
             Ok(None)
         }
     }
 }
 
-/// What is sent again of these, the first of which has this number.
+/// What is sent again of what was sent, from the first number to the last.
 #[tactic(auto, unfolding(crate::specs::Resent::frames_from))]
 fn old_frames(
     alloc: Global,
     member: &[u8],
     moment: i64,
-    first: u64,
-    entries: &[Entry],
+    sent: &SentMessages,
+    span: Span,
 ) -> Result<Vec<Bytes>, NoMemory>
-    requires { first + length entries.now < 2 ^ 64 }
-    ensures { IfOk result (λ frames. frames.items ≡ frames_from member.now moment None first entries.now) }
+    ensures { IfOk result (λ frames. frames.items
+        ≡ frames_from member.now moment None span.first (part_of sent.now span)) }
 {
+    let begin = span.first.saturating_sub(1);
+    let end = span.last.min(sent.len() as u64);
     let mut frames = Vec::new(alloc);
     let mut run = None;
-    let mut number = first;
-    for entry in entries {
+    let mut number = span.first;
+    for index in begin..end {
+        let entry = sent.get(index as usize);
         run = push_entry(&mut frames, member, moment, run, number, entry)?;
         number += 1;
     }
     push_gap(&mut frames, member, moment, run, number)?;
     Ok(frames)
-}
-
-/// The first entries, at most so many.
-#[tactic(auto, using(std::proofs::lemmas::List::take_all))]
-fn first_entries(sent: &[Entry], count: u64) -> &[Entry]
-    ensures { result.now ≡ take count sent.now }
-{
-    if count as usize <= sent.len() {
-        &sent[..count as usize]
-    } else {
-        sent
-    }
-}
-
-/// The entries behind the first ones.
-#[tactic(auto, using(std::proofs::lemmas::List::drop_all))]
-fn entries_behind(sent: &[Entry], count: u64) -> &[Entry]
-    ensures { result.now ≡ drop count sent.now }
-{
-    if count as usize <= sent.len() {
-        &sent[count as usize..]
-    } else {
-        &[]
-    }
-}
-
-/// What was sent from the first number to the last.
-fn part_of(sent: &[Entry], span: Span) -> &[Entry]
-    ensures { result.now ≡ part_of sent.now span }
-{
-    entries_behind(first_entries(sent, span.last), span.first.saturating_sub(1))
 }
 
 /// The frames that are sent again, where something is.
@@ -157,13 +129,13 @@ pub fn frames_of_span(
     alloc: Global,
     member: &[u8],
     moment: i64,
-    sent: &[Entry],
+    sent: &SentMessages,
     span: Option<Span>,
 ) -> Result<Vec<Bytes>, NoMemory>
     ensures { IfOk result (λ frames. frames.items ≡ frames_of_span member.now moment sent.now span) }
 {
     match span {
         None => Ok(Vec::new(alloc)),
-        Some(span) => old_frames(alloc, member, moment, span.first, part_of(sent, span)),
+        Some(span) => old_frames(alloc, member, moment, sent, span),
     }
 }

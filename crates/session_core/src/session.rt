@@ -5,11 +5,12 @@ use crate::answers::drops;
 use crate::bodies::reject;
 use crate::cases::{on_message, on_tick, on_too_long};
 use crate::content::content_of;
-use crate::frames::{entries_of, new_frame, push_new_frames, push_numbers};
+use crate::frames::{new_frame, push_new_frames};
 use crate::lookup::{kind_of, message_number};
-use crate::message::{Entry, Incoming, Message};
+use crate::message::{Incoming, Message};
 use crate::plan::Plan;
 use crate::resent::frames_of_span;
+use crate::sent::SentMessages;
 use crate::state::{EndCause, Phase, State, cause_of, heard, is_over, is_up};
 use crate::turn::{Turn, request_of, sent_now};
 use fix_fields::{Field, FieldFault, fields};
@@ -26,7 +27,7 @@ pub struct Session {
     member: Bytes,
     state: State,
     /// What is kept of each message that was sent, by number from 1 on.
-    sent: Vec<Entry>,
+    sent: SentMessages,
 }
 
 impl Model for Session {
@@ -34,7 +35,7 @@ impl Model for Session {
 
     ghost Value = { Machine };
 
-    ghost view = { λ s. record { member = s.member; state = s.state; sent = s.sent.items } };
+    ghost view = { λ s. record { member = s.member; state = s.state; sent = s.sent } };
 }
 
 impl Session {
@@ -59,7 +60,7 @@ impl Session {
                 sent_at: 0,
                 test_out: false,
             },
-            sent: Vec::new(alloc),
+            sent: SentMessages::new(alloc),
         }
     }
 
@@ -121,8 +122,7 @@ impl Session {
         ensures { IfOk result (λ replies. replies.items ≡ replies_of self.now moment plan.now) }
     {
         let member = self.member.as_slice();
-        let sent = self.sent.as_slice();
-        let mut replies = frames_of_span(self.alloc, member, moment, sent, plan.resend)?;
+        let mut replies = frames_of_span(self.alloc, member, moment, &self.sent, plan.resend)?;
         let before = if plan.reset { 0 } else { self.sent.len() };
         let messages = plan.messages.as_slice();
         push_new_frames(&mut replies, member, moment, before as u64 + 1, messages)?;
@@ -137,11 +137,11 @@ impl Session {
     {
         let count = plan.messages.as_slice().len();
         if plan.reset {
-            let mut sent = Vec::new(self.alloc);
-            push_numbers(&mut sent, count)?;
+            let mut sent = SentMessages::new(self.alloc);
+            sent.push_numbers(count)?;
             self.sent = sent;
         } else {
-            push_numbers(&mut self.sent, count)?;
+            self.sent.push_numbers(count)?;
         }
         Ok(())
     }
@@ -363,14 +363,16 @@ impl Session {
         ensures reply { IfOk result (λ frame. frame ∷ [] ≡ (on_send_one self.old kind body.now moment).turn.replies) }
         ensures err { OnErr result (self.new ≡ self.old) }
     {
-        let message = Message {
-            kind,
-            body: Bytes::copy_of(self.alloc, body)?,
-        };
         let number = self.sent.len() as u64 + 1;
-        let frame = new_frame(self.alloc, self.member.as_slice(), moment, number, &message)?;
-        let entry = Entry::of_application(self.alloc, message, moment)?;
-        self.sent.push(entry)?;
+        let frame = new_frame(
+            self.alloc,
+            self.member.as_slice(),
+            moment,
+            number,
+            kind,
+            body,
+        )?;
+        self.sent.push(kind, body, moment)?;
         self.state.sent_at = moment;
         Ok(frame)
     }
@@ -387,8 +389,7 @@ impl Session {
         let first = self.sent.len() as u64 + 1;
         let mut frames = Vec::new(self.alloc);
         push_new_frames(&mut frames, self.member.as_slice(), moment, first, messages)?;
-        let mut entries = entries_of(self.alloc, moment, messages)?;
-        self.sent.append(&mut entries)?;
+        self.sent.push_all(messages, moment)?;
         self.state = sent_now(moment, &frames, self.state);
         Ok(frames)
     }
@@ -411,9 +412,11 @@ impl Session {
         ensures err { OnErr result (self.new ≡ self.old) }
     {
         let message = reject(self.alloc, number, tag, &[kind], reason)?;
+        let member = self.member.as_slice();
         let place = self.sent.len() as u64 + 1;
-        let frame = new_frame(self.alloc, self.member.as_slice(), moment, place, &message)?;
-        self.sent.push(Entry::of_session())?;
+        let body = message.body.as_slice();
+        let frame = new_frame(self.alloc, member, moment, place, message.kind, body)?;
+        self.sent.push_numbers(1)?;
         self.state.sent_at = moment;
         Ok(frame)
     }

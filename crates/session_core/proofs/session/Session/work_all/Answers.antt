@@ -1,5 +1,5 @@
 -- One more input by its answer, and behind the last input no more answers.
-use Rattle.std.proofs.Common.{◌≡◌, ℕ, ◌+◌, ◌<◌, ◌++◌, List, [], ◌∷◌, Result, length, get_or, drop, refl, subst, sym, append_assoc, arith}
+use Rattle.std.proofs.Common.{◌≡◌, ℕ, ◌+◌, ◌<◌, ◌++◌, List, [], ◌∷◌, Result, length, get_or, drop, refl, subst, append_assoc, arith}
 use Rattle.std.proofs.lemmas.List.{drop_all, drop_more, append-nil}
 use Rattle.venue_words.specs.declared.refusal.NoMemory.{NoMemory}
 use Rattle.session_core.specs.declared.runs.Input.{Input}
