@@ -1,12 +1,11 @@
 -- A run whose output was put, and of which a write failed behind that.
-use Rattle.std.proofs.Common.{◌≡◌, ℕ, ◌+◌, ◌≤◌, ◌==◌, ◌⊎◌, Bool, true, false, cond, List, [], ◌∷◌, ◌++◌, length, take, Option, Some, None, Result, Ok, Err, IfSome, inl, inr, refl, sym, ◌∙◌, ap, append_assoc, append-nil, arith}
+use Rattle.std.proofs.Common.{◌≡◌, ℕ, ◌+◌, ◌≤◌, ◌==◌, ◌⊎◌, Bool, true, false, cond, List, [], ◌∷◌, ◌++◌, length, take, Option, Some, None, Result, Ok, Err, IfSome, inl, inr, refl, sym, ◌∙◌, ap, subst, append_assoc, append-nil, arith}
 use Rattle.std.proofs.Math.Seq.{take-append_seam}
 use Rattle.std.specs.Io.KnownBytes.{Appends}
+use Rattle.io_edge.specs.Files.{Files, Opens, file_named}
 use Rattle.script_text.specs.Lines.{Cut, cut, onto_line}
 use Rattle.script_text.specs.declared.fault.LineFault.{LineFault}
-use Rattle.line_reader.specs.Endings.{Told, after_failure}
 use Rattle.replay_core.specs.Play.{Place, Played, after_result, play, played, script, start, step_at}
-use Rattle.replay_core.specs.Statuses.{yields}
 use Rattle.replay_core.specs.Telling.{Seen, seen, StopsIn, Outcome, Ran}
 use Rattle.replay_core.specs.declared.status.Status.{Status}
 use Rattle.replay_core.specs.declared.status.Status.TheVariants.{Done, BadWords, BadLine, LimitLine, ReadFault, WriteFault, NoMemory}
@@ -114,11 +113,8 @@ ran_behind (Some bytes) told before after left was is status result same (inl e)
 ran_behind (Some bytes) told before after left was is status result same (inr e) x =
     rw (same, e) (ran_unwritten bytes (seen told was) (seen before is) left status x)
 
--- ---- once it is told
-
--- a write fault stays one
-pub stays_fault : (line : List ℕ) (status result : Status) (old new : Option (List ℕ)) (before now : ℕ) → status ≡ WriteFault
-    → Told line (after_failure (yields status) status WriteFault) status result old new before now → result ≡ WriteFault
-stays_fault line status result old new before now e (inl t) = t.0 ∙ e
-stays_fault line status result old new before now e (inr t) =
-    t.0 ∙ ap (λ (s : Status). after_failure (yields s) s WriteFault) e
+-- the file of a name, which was opened
+pub ran_named : (told : Option Files) (name : List ℕ) (left : Option (List ℕ)) (P : List ℕ → Type 0) → Opens told name left → IfSome left P
+    → IfSome told (λ files. IfSome (file_named files name) P)
+ran_named None name left P opens ran = tt
+ran_named (Some files) name left P opens ran = subst (λ (bytes : Option (List ℕ)). IfSome bytes P) opens.1 ran

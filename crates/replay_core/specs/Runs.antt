@@ -1,12 +1,15 @@
 -- What a run comes to, by its words and the files of its shelf.
-use Rattle.std.specs.Prelude.{◌≡◌, ◌⊎◌, ℕ, List, Option, Some, None, IfSome}
-use Rattle.io_edge.specs.Files.{Files}
-use Rattle.replay_core.specs.Causes.{script_told, LacksScript}
+use Rattle.std.specs.Prelude.{◌≡◌, ◌≢◌, ◌≤◌, ◌⊎◌, ℕ, List, [], Option, Some, None, IfSome, IsTrue}
+use Rattle.venue_words.specs.Causes.{Rose}
+use Rattle.io_edge.specs.Files.{Files, HasFile}
+use Rattle.replay_core.specs.Causes.{script_named, script_told, LacksScript}
 use Rattle.replay_core.specs.Loading.{Loaded}
+use Rattle.replay_core.specs.Outside.{RunSeen}
 use Rattle.replay_core.specs.Plan.{Load, plan_of}
-use Rattle.replay_core.specs.Telling.{Seen, Ran}
+use Rattle.replay_core.specs.Statuses.{IsTold}
+use Rattle.replay_core.specs.Telling.{Seen, Ran, seen}
 use Rattle.replay_core.specs.declared.status.Status.{Status}
-use Rattle.replay_core.specs.declared.status.Status.TheVariants.{BadWords, ReadFault, NoMemory}
+use Rattle.replay_core.specs.declared.status.Status.TheVariants.{Done, BadWords, ReadFault, WriteFault, NoMemory}
 
 -- the status with which a run ends, what was put by then, and the steps that were counted
 pub record Ends (told : Option Files) (words : List (List ℕ)) (left : Option (List ℕ)) (old new : Seen) (status : Status) : Type 0 where
@@ -18,3 +21,29 @@ pub record Ends (told : Option Files) (words : List (List ℕ)) (left : Option (
   pub bad_words : status ≡ BadWords → plan_of words ≡ None
   pub other_words : plan_of words ≡ None → ((status ≡ BadWords) ⊎ (status ≡ NoMemory)) × (new ≡ old)
   pub missing : LacksScript told words → ((status ≡ ReadFault) ⊎ (status ≡ NoMemory)) × (new ≡ old)
+
+-- by the counts of faults of a shelf and of a sink: they never fall, and a fault is answered only where one of them rose
+pub record IsCaused (read_before read_now write_before write_now : ℕ) (status : Status) : Type 0 where
+  pub read_later : read_before ≤ read_now
+  pub write_later : write_before ≤ write_now
+  pub read : status ≡ ReadFault → Rose read_before read_now
+  pub write : status ≡ WriteFault → Rose write_before write_now
+
+-- a whole run with these words, from `old` to `new`
+pub record IsRun {K E : Type 0} (words : List (List ℕ)) (old new : RunSeen K E) (status : Status) : Type 0 where
+  -- How the run ended, and the status once its text was put: a failed put makes a write fault of a refused line and of bad
+  -- words, and leaves every other status.
+  pub ended : Status
+  pub ends : Ends old.shelf.told words new.shelf.left (seen old.out.told old.steps) (seen new.out.told new.steps) ended
+  pub told : IsTold ended status old.err.told new.err.told old.err.faults new.err.faults
+  pub quiet : status ≡ Done → new.err.sink ≡ old.err.sink
+  -- Where nothing waited before the run, nothing waits behind it: all that was put was written, but for a write fault.
+  pub written : old.out.waiting ≡ [] → status ≢ WriteFault → new.out.waiting ≡ []
+  -- Faults come only where a count rose, and bad words only where they have no form.
+  pub bad_words : status ≡ BadWords → plan_of words ≡ None
+  pub read : status ≡ ReadFault → Rose old.shelf.faults new.shelf.faults
+  pub write : status ≡ WriteFault → Rose old.out.faults new.out.faults ⊎ Rose old.err.faults new.err.faults
+  pub sure : IsTrue old.shelf.sure → (name : List ℕ) → script_named words ≡ Some name → HasFile old.shelf.told name → status ≢ ReadFault
+  pub read_later : old.shelf.faults ≤ new.shelf.faults
+  pub write_later : old.out.faults ≤ new.out.faults
+  pub tell_later : old.err.faults ≤ new.err.faults

@@ -14,6 +14,7 @@ pub mod plan;
 pub mod player;
 pub mod pulling;
 pub mod replay;
+pub mod replayer;
 pub mod replaying;
 pub mod status;
 pub mod summary;
@@ -23,4 +24,5 @@ pub mod working;
 
 pub use plain_floor::PlainFloor;
 pub use player::Player;
+pub use replayer::Replayer;
 pub use status::Status;

@@ -1,5 +1,5 @@
 //! The load script, played from its own lines, and summed up.
-ghost use Rattle.std.specs.Prelude.{◌≡◌, ◌≢◌, ◌≤◌, ◌+◌, ◌⊎◌, ℕ, [], IfOk, IfErr};
+ghost use Rattle.std.specs.Prelude.{◌≡◌, ◌≢◌, ◌≤◌, ◌+◌, ◌⊎◌, ℕ, [], OnOk, IfErr};
 ghost use Rattle.std.specs.Io.KnownBytes.{Appends};
 ghost use Rattle.io_edge.specs.Grows.{AppendsPrefix};
 ghost use Rattle.venue_words.specs.Causes.{Rose};
@@ -26,18 +26,19 @@ use venue_words::Steps;
 /// Plays all lines of the load script, none of which is refused. Their output is dropped.
 fn play_lines<F: PlainFloor, L: Ledger>(
     alloc: Global,
+    phase: &mut Phase<F>,
     orders: u32,
     quotes: u32,
     steps: &mut Steps<L>,
-) -> Result<Phase<F>, LineFault>
+) -> Result<(), LineFault>
     requires orders { orders ≤ most_load }
     requires quotes { quotes ≤ most_load }
-    ensures ok { IfOk result (λ phase. (bytes : ℕ) ×
-        LoadsTo F.at (loaded orders quotes) [] steps.old steps.new (orders + quotes + 8) bytes phase) }
+    ensures ok { OnOk result ((bytes : ℕ) ×
+        LoadsTo F.at (loaded orders quotes) [] steps.old steps.new (orders + quotes + 8) bytes phase.new) }
     ensures err { IfErr result (λ fault. fault ≡ memory) }
     ensures steps { steps.new ≤ steps.old + (loaded orders quotes).steps }
 {
-    let mut phase = Phase::Head(Header::new(alloc));
+    *phase = Phase::Head(Header::new(alloc));
     let mut text = Vec::new(alloc);
     let mut bytes = 0u64;
     for done in 0..orders + quotes + 8 {
@@ -47,12 +48,12 @@ fn play_lines<F: PlainFloor, L: Ledger>(
             Err(fault) => return Err(fault),
         };
         text.clear();
-        match work_line(alloc, &mut phase, line, &mut text, steps) {
+        match work_line(alloc, phase, line, &mut text, steps) {
             Ok(()) => bytes += line.text.len() as u64 + 1,
             Err(fault) => return Err(fault),
         }
     }
-    Ok(phase)
+    Ok(())
 }
 
 /// Puts the line that sums a player up, and writes it.
@@ -75,9 +76,11 @@ fn put_summary<F: PlainFloor, K: Sink>(alloc: Global, player: &Player<F>, out: &
     }
 }
 
-/// Plays the load script of so many orders and quotes, and puts the one line that sums it up.
+/// Plays the load script of so many orders and quotes, and puts the one line that sums it up. The phase starts anew, and stays
+/// as the last line left it.
 pub fn play_load<F: PlainFloor, K: Sink, L: Ledger>(
     alloc: Global,
+    phase: &mut Phase<F>,
     orders: u32,
     quotes: u32,
     out: &mut K,
@@ -90,11 +93,11 @@ pub fn play_load<F: PlainFloor, K: Sink, L: Ledger>(
     ensures later { K.faults out.old ≤ K.faults out.new }
     ensures write { result ≡ Status.WriteFault → Rose (K.faults out.old) (K.faults out.new) }
 {
-    let phase = match play_lines::<F, L>(alloc, orders, quotes, steps) {
-        Ok(phase) => phase,
+    match play_lines(alloc, phase, orders, quotes, steps) {
+        Ok(()) => {}
         Err(fault) => return status_of(fault),
-    };
-    match &phase {
+    }
+    match &*phase {
         Phase::Body(player) => put_summary(alloc, player, out),
         _ => unreachable!(),
     }

@@ -1,10 +1,10 @@
 //! A script read line by line to its end.
 ghost use Rattle.std.specs.Prelude.{◌≡◌, ◌≢◌, ◌≤◌, ◌+◌, length, IfSome, IsTrue};
-ghost use Rattle.venue_words.specs.Causes.{Rose};
 ghost use Rattle.venue_words.specs.declared.limits.TheConstants.{MAX_LINE_BYTES, MAX_SCRIPT_BYTES};
 ghost use Rattle.line_reader.specs.Reading.{before_lines};
 ghost use Rattle.replay_core.specs.Play.{Place};
 ghost use Rattle.replay_core.specs.Reading.{IsAtPlace, fault_in};
+ghost use Rattle.replay_core.specs.Runs.{IsCaused};
 ghost use Rattle.replay_core.specs.Telling.{Ran, ending, seen};
 
 use crate::lines::{ScriptLine, play_line};
@@ -37,9 +37,11 @@ fn ending<F: PlainFloor>(phase: &Phase<F>, line: u32, rest: &[u8]) -> Status
     }
 }
 
-/// Reads the file that was begun to its end, line by line, and puts the output of each line before the next is worked.
+/// Reads the file that was begun to its end, line by line, and puts the output of each line before the next is worked. The
+/// phase starts anew, and stays as the last line left it.
 pub fn play_file<F: PlainFloor, H: Shelf, K: Sink, L: Ledger>(
     alloc: Global,
+    phase: &mut Phase<F>,
     reader: &mut LineReader,
     shelf: &mut H,
     out: &mut K,
@@ -49,14 +51,11 @@ pub fn play_file<F: PlainFloor, H: Shelf, K: Sink, L: Ledger>(
     requires start { reader.old ≡ before_lines 0 MAX_SCRIPT_BYTES }
     ensures ran { IfSome (H.left shelf.old) (λ bytes.
         Ran bytes (seen (K.told out.old) steps.old) (seen (K.told out.new) steps.new) (H.left shelf.new) result) }
-    ensures read_later { H.faults shelf.old ≤ H.faults shelf.new }
-    ensures write_later { K.faults out.old ≤ K.faults out.new }
-    ensures read { result ≡ Status.ReadFault → Rose (H.faults shelf.old) (H.faults shelf.new) }
-    ensures write { result ≡ Status.WriteFault → Rose (K.faults out.old) (K.faults out.new) }
+    ensures caused { IsCaused (H.faults shelf.old) (H.faults shelf.new) (K.faults out.old) (K.faults out.new) result }
     ensures sure { IsTrue (H.sure shelf.old) → result ≢ Status.ReadFault }
     ensures words { result ≢ Status.BadWords }
 {
-    let mut phase = Phase::<F>::Head(Header::new(alloc));
+    *phase = Phase::Head(Header::new(alloc));
     let mut text = Vec::new(alloc);
     loop {
         let number = reader.lines() + 1;
@@ -70,12 +69,12 @@ pub fn play_file<F: PlainFloor, H: Shelf, K: Sink, L: Ledger>(
                     text: line,
                     is_over,
                 };
-                match play_line(alloc, &mut phase, line, &mut text, out, steps) {
+                match play_line(alloc, phase, line, &mut text, out, steps) {
                     Ok(()) => {}
                     Err(status) => return status,
                 }
             }
-            NextLine::End { rest } => return ending(&phase, number, rest),
+            NextLine::End { rest } => return ending(phase, number, rest),
             NextLine::TooLong => {
                 return Status::LimitLine {
                     line: number,

@@ -1,7 +1,8 @@
 //! How a run ended.
 ghost use Rattle.std.specs.Prelude.{◌≡◌};
-ghost use Rattle.replay_core.specs.Statuses.{exit_code, status_of};
+ghost use Rattle.replay_core.specs.Statuses.{exit_code, refusal_of, status_of};
 
+use program_words::WordFault;
 use script_text::{LimitCause, LineCause, LineFault};
 
 /// How a run ended.
@@ -31,6 +32,16 @@ pub fn status_of(fault: LineFault) -> Status
         LineFault::Bad { line, cause } => Status::BadLine { line, cause },
         LineFault::Limit { line, which } => Status::LimitLine { line, which },
         LineFault::NoMemory => Status::NoMemory,
+    }
+}
+
+/// Why words have no form.
+pub fn refusal_of(fault: WordFault) -> Status
+    ensures { result ≡ refusal_of fault }
+{
+    match fault {
+        WordFault::BadWords => Status::BadWords,
+        WordFault::NoMemory => Status::NoMemory,
     }
 }
 

@@ -1,9 +1,14 @@
 //! What is told of a status.
-ghost use Rattle.replay_core.specs.Statuses.{told_of, yields};
+ghost use Rattle.std.specs.Prelude.{◌≡◌, ◌≤◌};
+ghost use Rattle.replay_core.specs.Statuses.{IsTold, told_of, yields};
 ghost use Rattle.replay_core.specs.declared.status.Status.TheVariants.{WriteFault};
 
 use crate::status::Status;
-use line_reader::{Ending, StatusText};
+use io_edge::Sink;
+use line_reader::{Ending, StatusText, tell};
+
+/// The name under which a status is told.
+const PROGRAM: &str = "pegreplay";
 
 impl Ending for Status {
     ghost told = { told_of };
@@ -44,4 +49,13 @@ impl Ending for Status {
     fn to_write_fault(self) -> Status {
         Status::WriteFault
     }
+}
+
+/// Puts the text of a status, once, and gives the status that this makes of it.
+pub(crate) fn tell_status<E: Sink>(status: Status, err: &mut E) -> Status
+    ensures told { IsTold status result (E.told err.old) (E.told err.new) (E.faults err.old) (E.faults err.new) }
+    ensures quiet { status ≡ Status.Done → err.new ≡ err.old }
+    ensures later { E.faults err.old ≤ E.faults err.new }
+{
+    tell(PROGRAM, status, err)
 }

@@ -9,5 +9,5 @@ never r = let above : min (0 + 1) (2 ^ 64 - 1) ≤ 0 = r in omega arith
 pub returns-clause-load : goal.returns-clause-load
 returns-clause-load g c orders quotes plan =
     let run = c.replay.ensures.run in
-    load_ends orders quotes None None None None 0 0 run.0 c.replay.result (run.1.load orders quotes plan).outcome run.2
-    (λ is. ⊎_elim never never (c.replay.ensures.write is))
+    load_ends orders quotes None None None None 0 0 run.ended c.replay.result (run.ends.load orders quotes plan).outcome run.told
+    (λ is. ⊎_elim never never (run.write is))

@@ -4,7 +4,7 @@ use Rattle.replay_core.specs.Plan.{form_of}
 use Rattle.replay_core.specs.Runs.{Ends}
 use Rattle.replay_core.proofs.Refusals.{words_refused}
 use Rattle.std.specs.Prelude.{option_and_then}
-use Rattle.replay_core.proofs.replay.answer.Goals as goal
+use Rattle.replay_core.proofs.replayer.answer.Goals as goal
 
 pub returns-in-Err-clause-ends : goal.returns-in-Err-clause-ends
 returns-in-Err-clause-ends g c =
