@@ -55,34 +55,40 @@ fn push_copies(
     Ok(())
 }
 
-/// Adds the copies of a member's reports of a symbol from a position on, and answers how many reports there are.
+/// A member's reports of a symbol, from a position on.
+#[derive(Clone, Copy)]
+struct ReportsFrom {
+    symbol: u32,
+    member: u32,
+    from: u32,
+}
+
+/// Adds the copies of these reports, and answers how many reports the symbol has.
 fn look<F: Floor>(
     alloc: Global,
     floor: &mut F,
     config: &Config,
-    symbol: u32,
-    member: u32,
-    from: u32,
+    wanted: ReportsFrom,
     messages: &mut Vec<Message>,
 ) -> Result<u32, NoMemory>
     requires config { IsConfig config.now }
     requires setup { IsSetUpFor config.now (F.mark floor.old).setup }
-    requires member { member < length config.now.members }
-    requires symbol { symbol < length config.now.symbols }
+    requires member { wanted.member < length config.now.members }
+    requires symbol { wanted.symbol < length config.now.symbols }
     ensures mark { F.mark floor.new ≡ F.mark floor.old }
-    ensures others { (other : ℕ) → other ≢ symbol → F.at floor.new other ≡ F.at floor.old other }
-    ensures waited { Waited (F.at floor.old symbol) (F.at floor.new symbol) }
-    ensures turns { OnOk result (TurnsRose (F.at floor.old symbol).turns (F.at floor.new symbol).turns) }
-    ensures made { (F.at floor.new symbol).reports
-        ≡ F.reports_in (F.mark floor.old) symbol (F.at floor.new symbol).journal }
+    ensures others { (other : ℕ) → other ≢ wanted.symbol → F.at floor.new other ≡ F.at floor.old other }
+    ensures waited { Waited (F.at floor.old wanted.symbol) (F.at floor.new wanted.symbol) }
+    ensures turns { OnOk result (TurnsRose (F.at floor.old wanted.symbol).turns (F.at floor.new wanted.symbol).turns) }
+    ensures made { (F.at floor.new wanted.symbol).reports
+        ≡ F.reports_in (F.mark floor.old) wanted.symbol (F.at floor.new wanted.symbol).journal }
     ensures messages { OnOk result (messages.new.items ≡ messages.old.items
-        ++ map (copy_of (name_at config.now.members member) (name_at config.now.symbols symbol))
-        (reports_of member from (F.at floor.new symbol).reports)) }
-    ensures front { IfOk result (λ front. front ≡ length (F.at floor.new symbol).reports) }
+        ++ map (copy_of (name_at config.now.members wanted.member) (name_at config.now.symbols wanted.symbol))
+        (reports_of wanted.member wanted.from (F.at floor.new wanted.symbol).reports)) }
+    ensures front { IfOk result (λ front. front ≡ length (F.at floor.new wanted.symbol).reports) }
 {
-    let look = floor.reports_after(symbol, member, from)?;
-    let name = name_at(config.symbols.as_slice(), symbol);
-    let own = name_at(config.members.as_slice(), member);
+    let look = floor.reports_after(wanted.symbol, wanted.member, wanted.from)?;
+    let name = name_at(config.symbols.as_slice(), wanted.symbol);
+    let own = name_at(config.members.as_slice(), wanted.member);
     push_copies(alloc, messages, own, name, look.reports.as_slice())?;
     Ok(look.front)
 }
@@ -109,7 +115,12 @@ fn look_at_symbol<F: Floor>(
 {
     for member in listed.members {
         let from = cursor_at(listed.cursors, moved.len());
-        let front = look(alloc, floor, listed.config, symbol, *member, from, messages)?;
+        let wanted = ReportsFrom {
+            symbol,
+            member: *member,
+            from,
+        };
+        let front = look(alloc, floor, listed.config, wanted, messages)?;
         moved.push(from.max(front))?;
     }
     Ok(())

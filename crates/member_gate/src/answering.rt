@@ -45,7 +45,6 @@ fn answer_business(
 
 /// Sends the report that answers an order of a symbol that is not configured.
 fn answer_stray(
-    alloc: Global,
     session: &mut Session,
     origin: Origin<'_>,
     request: &Request<'_>,
@@ -64,13 +63,12 @@ fn answer_stray(
 {
     let symbol = text_in(SYMBOL, request.fields.as_slice());
     let name = name_at(origin.config.members.as_slice(), origin.member);
-    let body = body(alloc, report, symbol, name)?;
+    let body = body(origin.alloc, report, symbol, name)?;
     Ok(Some(session.send(kind(report), &body, origin.moment)?))
 }
 
 /// Answers a message that is refused.
 fn answer_refused(
-    alloc: Global,
     session: &mut Session,
     origin: Origin<'_>,
     request: &Request<'_>,
@@ -92,7 +90,9 @@ fn answer_refused(
             let moment = origin.moment;
             Ok(Some(session.reject(request.number, request.kind, tag, reason, moment)?))
         }
-        Refusal::Business => { Ok(Some(answer_business(alloc, session, request, origin.moment)?)) }
+        Refusal::Business => {
+            Ok(Some(answer_business(origin.alloc, session, request, origin.moment)?))
+        }
         Refusal::NoMemory => Err(DeskRefusal::NoMemory),
     }
 }
@@ -101,7 +101,6 @@ fn answer_refused(
 /// book. After a refusal the session is as it was.
 #[tactic(auto, unfolding(crate::specs::Answering::answer))]
 pub fn answer<F: Floor, L: Ledger>(
-    alloc: Global,
     session: &mut Session,
     floor: &mut F,
     origin: Origin<'_>,
@@ -128,14 +127,20 @@ pub fn answer<F: Floor, L: Ledger>(
         (answer origin.entry.config.now origin.entry.member origin.entry.moment session.old request.now).submissions
         (floor.old, steps.old) (floor.new, steps.new)) }
 {
-    match read_order(alloc, request, origin.member, origin.config, origin.moment) {
+    match read_order(
+        origin.alloc,
+        request,
+        origin.member,
+        origin.config,
+        origin.moment,
+    ) {
         Ok(Decoded::Book { symbol, command }) => {
             match submit(floor, origin, symbol, &command, steps) {
                 Ok(()) => Ok(None),
                 Err(refusal) => Err(refusal),
             }
         }
-        Ok(Decoded::Stray { report }) => answer_stray(alloc, session, origin, request, &report),
-        Err(refusal) => answer_refused(alloc, session, origin, request, refusal),
+        Ok(Decoded::Stray { report }) => answer_stray(session, origin, request, &report),
+        Err(refusal) => answer_refused(session, origin, request, refusal),
     }
 }

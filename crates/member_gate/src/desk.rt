@@ -14,7 +14,7 @@ use crate::awaited::Awaited;
 use crate::names::name_at;
 use crate::origin::Origin;
 use crate::refusal::DeskRefusal;
-use crate::reporting::{are_past, look_all, look_past};
+use crate::reporting::{Reader, are_past, look_all, look_past};
 use crate::worked::Worked;
 use crate::working::work_frames;
 use fix_frames::Framer;
@@ -120,9 +120,7 @@ impl Desk {
         ensures cursors { self.new.cursors ≡ self.old.cursors }
     {
         self.framer.feed(piece)?;
-        let alloc = self.alloc;
         work_frames(
-            alloc,
             &mut self.framer,
             &mut self.session,
             floor,
@@ -192,6 +190,7 @@ impl Desk {
             return Ok(self.session.sending(Vec::new(self.alloc)));
         }
         let origin = Origin {
+            alloc: self.alloc,
             config,
             member: self.member,
             feed,
@@ -282,15 +281,12 @@ impl Desk {
         }
         let mut messages = Vec::new(self.alloc);
         self.fronts.clear();
-        look_all(
-            self.alloc,
-            floor,
+        let reader = Reader {
             config,
-            self.member,
-            &self.cursors,
-            &mut messages,
-            &mut self.fronts,
-        )?;
+            member: self.member,
+            cursors: &self.cursors,
+        };
+        look_all(self.alloc, floor, reader, &mut messages, &mut self.fronts)?;
         let frames = self.session.send_all(&messages, moment)?;
         swap(&mut self.cursors, &mut self.fronts);
         Ok(frames)
@@ -347,12 +343,15 @@ impl Desk {
         }
         let mut messages = Vec::new(self.alloc);
         self.fronts.clear();
+        let reader = Reader {
+            config,
+            member: self.member,
+            cursors: &self.cursors,
+        };
         look_past(
             self.alloc,
             floor,
-            config,
-            self.member,
-            &self.cursors,
+            reader,
             awaited,
             &mut messages,
             &mut self.fronts,

@@ -1,9 +1,11 @@
 //! Where a command comes from.
+use std::alloc::Global;
 use venue_words::Config;
 
-/// Where the commands of a piece come from.
-#[derive(Clone, Copy, Debug)]
+/// Where the commands of a piece come from, and the allocator of what is made of them.
+#[derive(Clone, Copy)]
 pub struct Origin<'a> {
+    pub alloc: Global,
     pub config: &'a Config,
     /// The member's number.
     pub member: u32,

@@ -88,32 +88,41 @@ fn push_messages(
     Ok(())
 }
 
+/// Who reads reports: a member of a config, and for each symbol how many of its reports were gone through.
+#[derive(Clone, Copy)]
+pub struct Reader<'a> {
+    pub config: &'a Config,
+    /// The member's number.
+    pub member: u32,
+    pub cursors: &'a [u32],
+}
+
 /// Adds the member's reports of a symbol from a position on, as messages, and answers how many reports there are.
 #[tactic(auto, unfolding(crate::specs::Reporting::messages_at))]
 fn look<F: Floor>(
     alloc: Global,
     floor: &mut F,
-    config: &Config,
-    member: u32,
+    reader: Reader<'_>,
     symbol: u32,
     from: u32,
     messages: &mut Vec<Message>,
 ) -> Result<u32, NoMemory>
-    requires config { IsConfig config.now }
-    requires setup { IsSetUpFor config.now (F.mark floor.old).setup }
-    requires member { member < length config.now.members }
-    requires symbol { symbol < length config.now.symbols }
+    requires config { IsConfig reader.config.now }
+    requires setup { IsSetUpFor reader.config.now (F.mark floor.old).setup }
+    requires member { reader.member < length reader.config.now.members }
+    requires symbol { symbol < length reader.config.now.symbols }
     ensures mark { F.mark floor.new ≡ F.mark floor.old }
     ensures others { (other : ℕ) → other ≢ symbol → F.at floor.new other ≡ F.at floor.old other }
     ensures waited { Waited (F.at floor.old symbol) (F.at floor.new symbol) }
     ensures turns { OnOk result (TurnsRose (F.at floor.old symbol).turns (F.at floor.new symbol).turns) }
     ensures messages { OnOk result (messages.new.items ≡ messages.old.items
-        ++ messages_at config.now member (name_at config.now.symbols symbol) from (F.at floor.new symbol).reports) }
+        ++ messages_at reader.entry.config.now reader.entry.member (name_at reader.entry.config.now.symbols symbol) from
+        (F.at floor.new symbol).reports) }
     ensures front { IfOk result (λ front. front ≡ length (F.at floor.new symbol).reports) }
 {
-    let look = floor.reports_after(symbol, member, from)?;
-    let name = name_at(config.symbols.as_slice(), symbol);
-    let own = name_at(config.members.as_slice(), member);
+    let look = floor.reports_after(symbol, reader.member, from)?;
+    let name = name_at(reader.config.symbols.as_slice(), symbol);
+    let own = name_at(reader.config.members.as_slice(), reader.member);
     push_messages(alloc, messages, own, name, look.reports.as_slice())?;
     Ok(look.front)
 }
@@ -123,34 +132,34 @@ fn look<F: Floor>(
 pub fn look_all<F: Floor>(
     alloc: Global,
     floor: &mut F,
-    config: &Config,
-    member: u32,
-    cursors: &[u32],
+    reader: Reader<'_>,
     messages: &mut Vec<Message>,
     fronts: &mut Vec<u32>,
 ) -> Result<(), NoMemory>
-    requires config { IsConfig config.now }
-    requires setup { IsSetUpFor config.now (F.mark floor.old).setup }
-    requires member { member < length config.now.members }
+    requires config { IsConfig reader.config.now }
+    requires setup { IsSetUpFor reader.config.now (F.mark floor.old).setup }
+    requires member { reader.member < length reader.config.now.members }
     requires messages { messages.old.items ≡ [] }
     requires fronts { fronts.old.items ≡ [] }
     ensures mark { F.mark floor.new ≡ F.mark floor.old }
     ensures waited { (symbol : ℕ) → Waited (F.at floor.old symbol) (F.at floor.new symbol) }
-    ensures others { (symbol : ℕ) → length config.now.symbols ≤ symbol → F.at floor.new symbol ≡ F.at floor.old symbol }
-    ensures turns { OnOk result ((symbol : ℕ) → symbol < length config.now.symbols
+    ensures others { (symbol : ℕ) → length reader.entry.config.now.symbols ≤ symbol
+        → F.at floor.new symbol ≡ F.at floor.old symbol }
+    ensures turns { OnOk result ((symbol : ℕ) → symbol < length reader.entry.config.now.symbols
         → TurnsRose (F.at floor.old symbol).turns (F.at floor.new symbol).turns) }
     ensures messages { OnOk result (messages.new.items
-        ≡ messages_past config.now member cursors.now (λ symbol. (F.at floor.new symbol).reports)) }
-    ensures fronts { OnOk result (MovedOn (length config.now.symbols) (λ symbol. (F.at floor.new symbol).reports)
-        cursors.now fronts.new.items) }
+        ≡ messages_past reader.entry.config.now reader.entry.member reader.entry.cursors.now
+        (λ symbol. (F.at floor.new symbol).reports)) }
+    ensures fronts { OnOk result (MovedOn (length reader.entry.config.now.symbols) (λ symbol. (F.at floor.new symbol).reports)
+        reader.entry.cursors.now fronts.new.items) }
 {
-    let count = config.symbols.len();
+    let count = reader.config.symbols.len();
     for symbol in 0..count {
-        let from = cursor_at(cursors, symbol);
-        let front = look(alloc, floor, config, member, symbol as u32, from, messages)?;
+        let from = cursor_at(reader.cursors, symbol);
+        let front = look(alloc, floor, reader, symbol as u32, from, messages)?;
         fronts.push(from.max(front))?;
     }
-    fronts.extend_from_slice(behind(cursors, count))?;
+    fronts.extend_from_slice(behind(reader.cursors, count))?;
     Ok(())
 }
 
@@ -170,15 +179,14 @@ struct KnownSymbol {
 fn look_where_past<F: Floor>(
     alloc: Global,
     floor: &mut F,
-    config: &Config,
-    member: u32,
+    reader: Reader<'_>,
     known: KnownSymbol,
     messages: &mut Vec<Message>,
 ) -> Result<u32, NoMemory>
-    requires config { IsConfig config.now }
-    requires setup { IsSetUpFor config.now (F.mark floor.old).setup }
-    requires member { member < length config.now.members }
-    requires symbol { known.symbol < length config.now.symbols }
+    requires config { IsConfig reader.config.now }
+    requires setup { IsSetUpFor reader.config.now (F.mark floor.old).setup }
+    requires member { reader.member < length reader.config.now.members }
+    requires symbol { known.symbol < length reader.config.now.symbols }
     requires front { known.front ≡ length (F.at floor.old known.symbol).reports }
     ensures mark { F.mark floor.new ≡ F.mark floor.old }
     ensures others { (other : ℕ) → other ≢ known.symbol → F.at floor.new other ≡ F.at floor.old other }
@@ -188,20 +196,12 @@ fn look_where_past<F: Floor>(
     ensures turns { OnOk result (known.asked ≡ true → known.from < length (F.at floor.old known.symbol).reports
         → TurnsRose (F.at floor.old known.symbol).turns (F.at floor.new known.symbol).turns) }
     ensures messages { OnOk result (messages.new.items ≡ messages.old.items
-        ++ messages_at config.now member (name_at config.now.symbols known.symbol) known.from
-        (where_asked known.asked (F.at floor.new known.symbol).reports)) }
+        ++ messages_at reader.entry.config.now reader.entry.member (name_at reader.entry.config.now.symbols known.symbol)
+        known.from (where_asked known.asked (F.at floor.new known.symbol).reports)) }
     ensures front { IfOk result (λ front. front ≡ length (F.at floor.new known.symbol).reports) }
 {
     if known.asked && known.from < known.front {
-        look(
-            alloc,
-            floor,
-            config,
-            member,
-            known.symbol,
-            known.from,
-            messages,
-        )
+        look(alloc, floor, reader, known.symbol, known.from, messages)
     } else {
         Ok(known.front)
     }
@@ -212,37 +212,38 @@ fn look_where_past<F: Floor>(
 pub fn look_past<F: Floor>(
     alloc: Global,
     floor: &mut F,
-    config: &Config,
-    member: u32,
-    cursors: &[u32],
+    reader: Reader<'_>,
     awaited: Awaited<'_>,
     messages: &mut Vec<Message>,
     fronts: &mut Vec<u32>,
 ) -> Result<(), NoMemory>
-    requires config { IsConfig config.now }
-    requires setup { IsSetUpFor config.now (F.mark floor.old).setup }
-    requires member { member < length config.now.members }
-    requires awaited { AreFronts (length config.now.symbols) (λ symbol. (F.at floor.old symbol).reports) awaited.fronts.now }
+    requires config { IsConfig reader.config.now }
+    requires setup { IsSetUpFor reader.config.now (F.mark floor.old).setup }
+    requires member { reader.member < length reader.config.now.members }
+    requires awaited { AreFronts (length reader.config.now.symbols) (λ symbol. (F.at floor.old symbol).reports)
+        awaited.fronts.now }
     requires messages { messages.old.items ≡ [] }
     requires fronts { fronts.old.items ≡ [] }
     ensures mark { F.mark floor.new ≡ F.mark floor.old }
     ensures waited { (symbol : ℕ) → Waited (F.at floor.old symbol) (F.at floor.new symbol) }
-    ensures others { (symbol : ℕ) → length config.now.symbols ≤ symbol → F.at floor.new symbol ≡ F.at floor.old symbol }
-    ensures unasked { (symbol : ℕ)
-        → HasNoNews (asked_at awaited.entry.asked.now symbol) (cursor_at cursors.now symbol) (F.at floor.old symbol)
+    ensures others { (symbol : ℕ) → length reader.entry.config.now.symbols ≤ symbol
         → F.at floor.new symbol ≡ F.at floor.old symbol }
-    ensures turns { OnOk result ((symbol : ℕ) → symbol < length config.now.symbols
+    ensures unasked { (symbol : ℕ)
+        → HasNoNews (asked_at awaited.entry.asked.now symbol) (cursor_at reader.entry.cursors.now symbol)
+        (F.at floor.old symbol)
+        → F.at floor.new symbol ≡ F.at floor.old symbol }
+    ensures turns { OnOk result ((symbol : ℕ) → symbol < length reader.entry.config.now.symbols
         → asked_at awaited.entry.asked.now symbol ≡ true
-        → cursor_at cursors.now symbol < length (F.at floor.old symbol).reports
+        → cursor_at reader.entry.cursors.now symbol < length (F.at floor.old symbol).reports
         → TurnsRose (F.at floor.old symbol).turns (F.at floor.new symbol).turns) }
-    ensures messages { OnOk result (messages.new.items ≡ messages_past config.now member cursors.now
-        (asked_reports awaited.entry.asked.now (λ symbol. (F.at floor.new symbol).reports))) }
-    ensures fronts { OnOk result (MovedOn (length config.now.symbols) (λ symbol. (F.at floor.new symbol).reports)
-        cursors.now fronts.new.items) }
+    ensures messages { OnOk result (messages.new.items ≡ messages_past reader.entry.config.now reader.entry.member
+        reader.entry.cursors.now (asked_reports awaited.entry.asked.now (λ symbol. (F.at floor.new symbol).reports))) }
+    ensures fronts { OnOk result (MovedOn (length reader.entry.config.now.symbols) (λ symbol. (F.at floor.new symbol).reports)
+        reader.entry.cursors.now fronts.new.items) }
 {
-    let count = config.symbols.len();
+    let count = reader.config.symbols.len();
     for symbol in 0..count {
-        let from = cursor_at(cursors, symbol);
+        let from = cursor_at(reader.cursors, symbol);
         let asked = is_asked(awaited.asked, symbol);
         let known = KnownSymbol {
             symbol: symbol as u32,
@@ -250,10 +251,10 @@ pub fn look_past<F: Floor>(
             front: awaited.fronts[symbol],
             asked,
         };
-        let front = look_where_past(alloc, floor, config, member, known, messages)?;
+        let front = look_where_past(alloc, floor, reader, known, messages)?;
         let moved = from.max(front);
         fronts.push(moved)?;
     }
-    fronts.extend_from_slice(behind(cursors, count))?;
+    fronts.extend_from_slice(behind(reader.cursors, count))?;
     Ok(())
 }

@@ -13,7 +13,6 @@ use crate::refusal::DeskRefusal;
 use crate::worked::Worked;
 use fix_frames::{Framer, Next};
 use session_core::Session;
-use std::alloc::Global;
 use std::sync::ledger::Ledger;
 use venue_words::limits::MAX_FRAME_BYTES;
 use venue_words::{Bytes, Floor, Steps};
@@ -21,7 +20,6 @@ use venue_words::{Bytes, Floor, Steps};
 /// Works a frame: its replies are added. After a refusal some of them may be.
 #[tactic(auto, unfolding(crate::specs::Working::work_of_frame))]
 fn work_frame<F: Floor, L: Ledger>(
-    alloc: Global,
     session: &mut Session,
     floor: &mut F,
     origin: Origin<'_>,
@@ -61,7 +59,7 @@ fn work_frame<F: Floor, L: Ledger>(
     let Some(count) = worked.submitted.checked_add(1) else {
         return Err(DeskRefusal::NoMemory);
     };
-    match answer(alloc, session, floor, origin, &request, steps)? {
+    match answer(session, floor, origin, &request, steps)? {
         Some(reply) => {
             worked.replies.push_reserved(reply);
             Ok(())
@@ -94,7 +92,6 @@ fn end_too_long(
 
 /// Works all frames that a stream has now.
 pub fn work_frames<F: Floor, L: Ledger>(
-    alloc: Global,
     framer: &mut Framer,
     session: &mut Session,
     floor: &mut F,
@@ -125,7 +122,7 @@ pub fn work_frames<F: Floor, L: Ledger>(
     'frames: loop {
         match framer.next() {
             Next::Frame(frame) => {
-                work_frame(alloc, session, floor, origin, frame, worked, steps)?;
+                work_frame(session, floor, origin, frame, worked, steps)?;
             }
             Next::Wait => return Ok(()),
             Next::TooLong => {

@@ -11,7 +11,7 @@ each_rose _ before after = TurnsRose before.turns after.turns
 
 pub loop-symbol-preserved : goal.loop-symbol-preserved
 loop-symbol-preserved g c =
-    let config = c.args.config.now in
+    let config = c.args.reader.config.now in
     let symbol = c.loop-symbol.symbol in
     let fronts = c.loop-symbol.fronts.items in
     let inside : symbol < length config.symbols = omega arith in
@@ -19,28 +19,28 @@ loop-symbol-preserved g c =
     let reports = (g.F.Floor.at c.look.new.floor symbol).reports in record {
       mark = c.look.ensures.mark ∙ c.loop-symbol.invariant.mark;
       looked =
-          looked_more g.F.Floor.at config c.args.member c.args.cursors.now all_seen each_rose c.args.floor.now symbol c.loop-symbol.floor c.look.new.floor messages c.look.new.messages.items fronts c.push.new.self.items c.in_ok-front.front
+          looked_more g.F.Floor.at config c.args.reader.member c.args.reader.cursors.now all_seen each_rose c.args.floor.now symbol c.loop-symbol.floor c.look.new.floor messages c.look.new.messages.items fronts c.push.new.self.items c.in_ok-front.front
           c.loop-symbol.invariant.looked inside c.look.ensures.others c.look.ensures.waited c.in_ok-front.ensures.turns
-          (c.in_ok-front.ensures.messages ∙ ap (λ (from : ℕ). messages ++ messages_at config c.args.member (name_at config.symbols symbol) from reports) c.cursor_at-from.ensures)
+          (c.in_ok-front.ensures.messages ∙ ap (λ (from : ℕ). messages ++ messages_at config c.args.reader.member (name_at config.symbols symbol) from reports) c.cursor_at-from.ensures)
           c.in_ok-front.ensures.front
           (c.in_ok-push.ensures.items ∙ ap (λ (k : ℕ). fronts ++ k ∷ []) (c.max.ensures ∙ ap (λ (k : ℕ). max k c.in_ok-front.front) c.cursor_at-from.ensures));
     }
 
 pub returns-clause-fronts : goal.returns-clause-fronts
 returns-clause-fronts g c =
-    let config = c.args.config.now in
+    let config = c.args.reader.config.now in
     let floor = c.loop-symbol.floor in
     let all : c.loop-symbol.symbol ≡ length config.symbols = omega arith in
-    let looked = subst (λ (k : ℕ). Looked g.F.Floor.at config c.args.member c.args.cursors.now all_seen each_rose c.args.floor.now k floor c.loop-symbol.messages.items c.loop-symbol.fronts.items) all c.loop-symbol.invariant.looked in
-    moved_on g.F.Floor.at config c.args.member c.args.cursors.now all_seen each_rose c.args.floor.now floor c.loop-symbol.messages.items c.loop-symbol.fronts.items _ looked
-    (c.in_ok-extend_from_slice.ensures.items ∙ ap (λ (xs : List ℕ). c.loop-symbol.fronts.items ++ xs) (c.behind.ensures ∙ ap (λ (k : ℕ). drop k c.args.cursors.now) c.len-count.ensures))
+    let looked = subst (λ (k : ℕ). Looked g.F.Floor.at config c.args.reader.member c.args.reader.cursors.now all_seen each_rose c.args.floor.now k floor c.loop-symbol.messages.items c.loop-symbol.fronts.items) all c.loop-symbol.invariant.looked in
+    moved_on g.F.Floor.at config c.args.reader.member c.args.reader.cursors.now all_seen each_rose c.args.floor.now floor c.loop-symbol.messages.items c.loop-symbol.fronts.items _ looked
+    (c.in_ok-extend_from_slice.ensures.items ∙ ap (λ (xs : List ℕ). c.loop-symbol.fronts.items ++ xs) (c.behind.ensures ∙ ap (λ (k : ℕ). drop k c.args.reader.cursors.now) c.len-count.ensures))
 
 -- what the floor shows behind a look that failed, or behind a cursor that found no room
 
 pub returns-in_err-front-clause-waited : goal.returns-in_err-front-clause-waited
 returns-in_err-front-clause-waited g c =
     let looked = c.loop-symbol.invariant.looked in
-    waited_on g.F.Floor.at c.args.config.now c.args.member c.args.cursors.now all_seen each_rose c.args.floor.now c.loop-symbol.floor c.look.new.floor c.loop-symbol.symbol
+    waited_on g.F.Floor.at c.args.reader.config.now c.args.reader.member c.args.reader.cursors.now all_seen each_rose c.args.floor.now c.loop-symbol.floor c.look.new.floor c.loop-symbol.symbol
     looked.waited looked.ahead c.look.ensures.others c.look.ensures.waited
 
 pub returns-in_err-front-clause-others : goal.returns-in_err-front-clause-others
@@ -53,7 +53,7 @@ returns-in_err-front-clause-mark g c = c.look.ensures.mark ∙ c.loop-symbol.inv
 pub returns-in_err-push-clause-waited : goal.returns-in_err-push-clause-waited
 returns-in_err-push-clause-waited g c =
     let looked = c.loop-symbol.invariant.looked in
-    waited_on g.F.Floor.at c.args.config.now c.args.member c.args.cursors.now all_seen each_rose c.args.floor.now c.loop-symbol.floor c.look.new.floor c.loop-symbol.symbol
+    waited_on g.F.Floor.at c.args.reader.config.now c.args.reader.member c.args.reader.cursors.now all_seen each_rose c.args.floor.now c.loop-symbol.floor c.look.new.floor c.loop-symbol.symbol
     looked.waited looked.ahead c.look.ensures.others c.look.ensures.waited
 
 pub returns-in_err-push-clause-others : goal.returns-in_err-push-clause-others
@@ -82,8 +82,8 @@ returns-clause-turns g c = λ symbol h. c.loop-symbol.invariant.looked.each symb
 
 pub returns-clause-messages : goal.returns-clause-messages
 returns-clause-messages g c =
-    let config = c.args.config.now in
+    let config = c.args.reader.config.now in
     let floor = c.loop-symbol.floor in
     let all : c.loop-symbol.symbol ≡ length config.symbols = omega arith in
-    let looked = subst (λ (k : ℕ). Looked g.F.Floor.at config c.args.member c.args.cursors.now all_seen each_rose c.args.floor.now k floor c.loop-symbol.messages.items c.loop-symbol.fronts.items) all c.loop-symbol.invariant.looked in
-    all_messages g.F.Floor.at config c.args.member c.args.cursors.now all_seen each_rose c.args.floor.now floor c.loop-symbol.messages.items c.loop-symbol.fronts.items looked
+    let looked = subst (λ (k : ℕ). Looked g.F.Floor.at config c.args.reader.member c.args.reader.cursors.now all_seen each_rose c.args.floor.now k floor c.loop-symbol.messages.items c.loop-symbol.fronts.items) all c.loop-symbol.invariant.looked in
+    all_messages g.F.Floor.at config c.args.reader.member c.args.reader.cursors.now all_seen each_rose c.args.floor.now floor c.loop-symbol.messages.items c.loop-symbol.fronts.items looked

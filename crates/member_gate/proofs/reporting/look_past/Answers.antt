@@ -19,7 +19,7 @@ news at asked cursors symbol from is now next e f unasked rose = record {
 
 pub loop-symbol-preserved : goal.loop-symbol-preserved
 loop-symbol-preserved g c =
-    let config = c.args.config.now in
+    let config = c.args.reader.config.now in
     let symbol = c.loop-symbol.symbol in
     let fronts = c.loop-symbol.fronts.items in
     let inside : symbol < length config.symbols = omega arith in
@@ -27,32 +27,32 @@ loop-symbol-preserved g c =
     let reports = (g.F.Floor.at c.look_where_past.new.floor symbol).reports in record {
       mark = c.look_where_past.ensures.mark ∙ c.loop-symbol.invariant.mark;
       looked =
-          looked_more g.F.Floor.at config c.args.member c.args.cursors.now (asked_seen c.args.awaited.asked.now) (for_news c.args.awaited.asked.now c.args.cursors.now) c.args.floor.now symbol c.loop-symbol.floor c.look_where_past.new.floor messages c.look_where_past.new.messages.items fronts c.push.new.self.items c.in_ok-front.front
+          looked_more g.F.Floor.at config c.args.reader.member c.args.reader.cursors.now (asked_seen c.args.awaited.asked.now) (for_news c.args.awaited.asked.now c.args.reader.cursors.now) c.args.floor.now symbol c.loop-symbol.floor c.look_where_past.new.floor messages c.look_where_past.new.messages.items fronts c.push.new.self.items c.in_ok-front.front
           c.loop-symbol.invariant.looked inside c.look_where_past.ensures.others c.look_where_past.ensures.waited
-          (news g.F.Floor.at c.args.awaited.asked.now c.args.cursors.now symbol c.cursor_at-from.result c.is_asked-asked.result c.loop-symbol.floor c.look_where_past.new.floor c.cursor_at-from.ensures
+          (news g.F.Floor.at c.args.awaited.asked.now c.args.reader.cursors.now symbol c.cursor_at-from.result c.is_asked-asked.result c.loop-symbol.floor c.look_where_past.new.floor c.cursor_at-from.ensures
           c.is_asked-asked.ensures c.look_where_past.ensures.unasked c.in_ok-front.ensures.turns)
           (c.in_ok-front.ensures.messages
-          ∙ ap (λ (from : ℕ). messages ++ messages_at config c.args.member (name_at config.symbols symbol) from (where_asked c.is_asked-asked.result reports)) c.cursor_at-from.ensures
-          ∙ ap (λ (is : Bool). messages ++ messages_at config c.args.member (name_at config.symbols symbol) (cursor_at c.args.cursors.now symbol) (where_asked is reports)) c.is_asked-asked.ensures)
+          ∙ ap (λ (from : ℕ). messages ++ messages_at config c.args.reader.member (name_at config.symbols symbol) from (where_asked c.is_asked-asked.result reports)) c.cursor_at-from.ensures
+          ∙ ap (λ (is : Bool). messages ++ messages_at config c.args.reader.member (name_at config.symbols symbol) (cursor_at c.args.reader.cursors.now symbol) (where_asked is reports)) c.is_asked-asked.ensures)
           c.in_ok-front.ensures.front
           (c.in_ok-push.ensures.items ∙ ap (λ (k : ℕ). fronts ++ k ∷ []) (c.max-moved.ensures ∙ ap (λ (k : ℕ). max k c.in_ok-front.front) c.cursor_at-from.ensures));
     }
 
 pub returns-clause-fronts : goal.returns-clause-fronts
 returns-clause-fronts g c =
-    let config = c.args.config.now in
+    let config = c.args.reader.config.now in
     let floor = c.loop-symbol.floor in
     let all : c.loop-symbol.symbol ≡ length config.symbols = omega arith in
-    let looked = subst (λ (k : ℕ). Looked g.F.Floor.at config c.args.member c.args.cursors.now (asked_seen c.args.awaited.asked.now) (for_news c.args.awaited.asked.now c.args.cursors.now) c.args.floor.now k floor c.loop-symbol.messages.items c.loop-symbol.fronts.items) all c.loop-symbol.invariant.looked in
-    moved_on g.F.Floor.at config c.args.member c.args.cursors.now (asked_seen c.args.awaited.asked.now) (for_news c.args.awaited.asked.now c.args.cursors.now) c.args.floor.now floor c.loop-symbol.messages.items c.loop-symbol.fronts.items _ looked
-    (c.in_ok-extend_from_slice.ensures.items ∙ ap (λ (xs : List ℕ). c.loop-symbol.fronts.items ++ xs) (c.behind.ensures ∙ ap (λ (k : ℕ). drop k c.args.cursors.now) c.len-count.ensures))
+    let looked = subst (λ (k : ℕ). Looked g.F.Floor.at config c.args.reader.member c.args.reader.cursors.now (asked_seen c.args.awaited.asked.now) (for_news c.args.awaited.asked.now c.args.reader.cursors.now) c.args.floor.now k floor c.loop-symbol.messages.items c.loop-symbol.fronts.items) all c.loop-symbol.invariant.looked in
+    moved_on g.F.Floor.at config c.args.reader.member c.args.reader.cursors.now (asked_seen c.args.awaited.asked.now) (for_news c.args.awaited.asked.now c.args.reader.cursors.now) c.args.floor.now floor c.loop-symbol.messages.items c.loop-symbol.fronts.items _ looked
+    (c.in_ok-extend_from_slice.ensures.items ∙ ap (λ (xs : List ℕ). c.loop-symbol.fronts.items ++ xs) (c.behind.ensures ∙ ap (λ (k : ℕ). drop k c.args.reader.cursors.now) c.len-count.ensures))
 
 -- what the floor shows behind a look that failed, or behind a cursor that found no room
 
 pub returns-in_err-front-clause-waited : goal.returns-in_err-front-clause-waited
 returns-in_err-front-clause-waited g c =
     let looked = c.loop-symbol.invariant.looked in
-    waited_on g.F.Floor.at c.args.config.now c.args.member c.args.cursors.now (asked_seen c.args.awaited.asked.now) (for_news c.args.awaited.asked.now c.args.cursors.now) c.args.floor.now c.loop-symbol.floor c.look_where_past.new.floor c.loop-symbol.symbol
+    waited_on g.F.Floor.at c.args.reader.config.now c.args.reader.member c.args.reader.cursors.now (asked_seen c.args.awaited.asked.now) (for_news c.args.awaited.asked.now c.args.reader.cursors.now) c.args.floor.now c.loop-symbol.floor c.look_where_past.new.floor c.loop-symbol.symbol
     looked.waited looked.ahead c.look_where_past.ensures.others c.look_where_past.ensures.waited
 
 pub returns-in_err-front-clause-others : goal.returns-in_err-front-clause-others
@@ -65,7 +65,7 @@ returns-in_err-front-clause-mark g c = c.look_where_past.ensures.mark ∙ c.loop
 pub returns-in_err-push-clause-waited : goal.returns-in_err-push-clause-waited
 returns-in_err-push-clause-waited g c =
     let looked = c.loop-symbol.invariant.looked in
-    waited_on g.F.Floor.at c.args.config.now c.args.member c.args.cursors.now (asked_seen c.args.awaited.asked.now) (for_news c.args.awaited.asked.now c.args.cursors.now) c.args.floor.now c.loop-symbol.floor c.look_where_past.new.floor c.loop-symbol.symbol
+    waited_on g.F.Floor.at c.args.reader.config.now c.args.reader.member c.args.reader.cursors.now (asked_seen c.args.awaited.asked.now) (for_news c.args.awaited.asked.now c.args.reader.cursors.now) c.args.floor.now c.loop-symbol.floor c.look_where_past.new.floor c.loop-symbol.symbol
     looked.waited looked.ahead c.look_where_past.ensures.others c.look_where_past.ensures.waited
 
 pub returns-in_err-push-clause-others : goal.returns-in_err-push-clause-others
@@ -94,34 +94,34 @@ returns-clause-turns g c = λ symbol h on past. (c.loop-symbol.invariant.looked.
 
 pub returns-clause-messages : goal.returns-clause-messages
 returns-clause-messages g c =
-    let config = c.args.config.now in
+    let config = c.args.reader.config.now in
     let floor = c.loop-symbol.floor in
     let all : c.loop-symbol.symbol ≡ length config.symbols = omega arith in
-    let looked = subst (λ (k : ℕ). Looked g.F.Floor.at config c.args.member c.args.cursors.now (asked_seen c.args.awaited.asked.now) (for_news c.args.awaited.asked.now c.args.cursors.now) c.args.floor.now k floor c.loop-symbol.messages.items c.loop-symbol.fronts.items) all c.loop-symbol.invariant.looked in
-    all_messages g.F.Floor.at config c.args.member c.args.cursors.now (asked_seen c.args.awaited.asked.now) (for_news c.args.awaited.asked.now c.args.cursors.now) c.args.floor.now floor c.loop-symbol.messages.items c.loop-symbol.fronts.items looked
+    let looked = subst (λ (k : ℕ). Looked g.F.Floor.at config c.args.reader.member c.args.reader.cursors.now (asked_seen c.args.awaited.asked.now) (for_news c.args.awaited.asked.now c.args.reader.cursors.now) c.args.floor.now k floor c.loop-symbol.messages.items c.loop-symbol.fronts.items) all c.loop-symbol.invariant.looked in
+    all_messages g.F.Floor.at config c.args.reader.member c.args.reader.cursors.now (asked_seen c.args.awaited.asked.now) (for_news c.args.awaited.asked.now c.args.reader.cursors.now) c.args.floor.now floor c.loop-symbol.messages.items c.loop-symbol.fronts.items looked
 
 -- a symbol without news stays
 
 pub returns-in_err-front-clause-unasked : goal.returns-in_err-front-clause-unasked
 returns-in_err-front-clause-unasked g c =
     let looked = c.loop-symbol.invariant.looked in
-    stays_on g.F.Floor.at c.args.awaited.asked.now c.args.cursors.now c.args.floor.now c.loop-symbol.floor c.look_where_past.new.floor c.loop-symbol.symbol
+    stays_on g.F.Floor.at c.args.awaited.asked.now c.args.reader.cursors.now c.args.floor.now c.loop-symbol.floor c.look_where_past.new.floor c.loop-symbol.symbol
     c.cursor_at-from.result c.is_asked-asked.result looked.each looked.ahead c.look_where_past.ensures.others c.cursor_at-from.ensures c.is_asked-asked.ensures
     c.look_where_past.ensures.unasked
 
 pub returns-in_err-push-clause-unasked : goal.returns-in_err-push-clause-unasked
 returns-in_err-push-clause-unasked g c =
     let looked = c.loop-symbol.invariant.looked in
-    stays_on g.F.Floor.at c.args.awaited.asked.now c.args.cursors.now c.args.floor.now c.loop-symbol.floor c.look_where_past.new.floor c.loop-symbol.symbol
+    stays_on g.F.Floor.at c.args.awaited.asked.now c.args.reader.cursors.now c.args.floor.now c.loop-symbol.floor c.look_where_past.new.floor c.loop-symbol.symbol
     c.cursor_at-from.result c.is_asked-asked.result looked.each looked.ahead c.look_where_past.ensures.others c.cursor_at-from.ensures c.is_asked-asked.ensures
     c.look_where_past.ensures.unasked
 
 pub returns-in_err-extend_from_slice-clause-unasked : goal.returns-in_err-extend_from_slice-clause-unasked
 returns-in_err-extend_from_slice-clause-unasked g c =
     let looked = c.loop-symbol.invariant.looked in
-    stays g.F.Floor.at c.args.awaited.asked.now c.args.cursors.now c.args.floor.now c.loop-symbol.floor c.loop-symbol.symbol looked.each looked.ahead
+    stays g.F.Floor.at c.args.awaited.asked.now c.args.reader.cursors.now c.args.floor.now c.loop-symbol.floor c.loop-symbol.symbol looked.each looked.ahead
 
 pub returns-clause-unasked : goal.returns-clause-unasked
 returns-clause-unasked g c =
     let looked = c.loop-symbol.invariant.looked in
-    stays g.F.Floor.at c.args.awaited.asked.now c.args.cursors.now c.args.floor.now c.loop-symbol.floor c.loop-symbol.symbol looked.each looked.ahead
+    stays g.F.Floor.at c.args.awaited.asked.now c.args.reader.cursors.now c.args.floor.now c.loop-symbol.floor c.loop-symbol.symbol looked.each looked.ahead

@@ -13,6 +13,6 @@ returns-else-known-clause-messages g c =
       | else-known-via-then-known+else-known-2 w ↦ λ on. omega (arith, w.if-known-2.false, c.requires.front)
       | else-known-via-else-known w ↦ λ on. absurd (let contrary : true ≡ false = sym on ∙ w.if-known.false in cc)
     ] in
-    let none = no_messages c.args.config.now c.args.member (name_at c.args.config.now.symbols c.args.known.symbol) c.args.known.from
+    let none = no_messages c.args.reader.config.now c.args.reader.member (name_at c.args.reader.config.now.symbols c.args.known.symbol) c.args.known.from
     (g.F.Floor.at c.args.floor.now c.args.known.symbol).reports c.args.known.asked read in
     sym (ap (λ (more : List Message). c.args.messages.now.items ++ more) none ∙ append-nil c.args.messages.now.items)
