@@ -10,6 +10,7 @@ ghost use Rattle.venue_words.specs.declared.report.Execution.TheVariants.{Cancel
 ghost use Rattle.eager_meaning.specs.Entering.{enter};
 ghost use Rattle.eager_meaning.specs.Changing.{named_order, refusal, without, without_row, cancel, on_cancel, replaced_order, with_replaced, only_lowers, with_leaves, resize, arrival_of_replace, on_replace};
 
+use crate::asked::Asked;
 use crate::notices::one_notice;
 use crate::plain::Plain;
 use crate::views::{view_closed, view_of};
@@ -234,24 +235,24 @@ impl Plain {
     #[tactic(auto, unfolding(eager_meaning::specs::Changing::on_cancel))]
     pub(crate) fn on_cancel(
         &mut self,
-        alloc: Global,
-        member: u32,
+        asked: Asked,
         id: &Bytes,
         orig: &Bytes,
         live: &Option<Live>,
         broken: Option<Rule>,
     ) -> Result<Vec<Notice>, AllocError>
-        ensures state { IfOk result (λ _. self.new ≡ (on_cancel member id.now orig.now live.now broken self.old).state) }
+        ensures state { IfOk result (λ _. self.new
+            ≡ (on_cancel asked.member id.now orig.now live.now broken self.old).state) }
         ensures notices { IfOk result (λ notices. notices.items
-            ≡ (on_cancel member id.now orig.now live.now broken self.old).notices) }
+            ≡ (on_cancel asked.member id.now orig.now live.now broken self.old).notices) }
     {
         match (broken, live) {
             (Some(rule), live) => {
-                let kind = refusal(alloc, RefusedRequest::Cancel, id, orig, live, rule)?;
-                one_notice(alloc, member, kind)
+                let kind = refusal(asked.alloc, RefusedRequest::Cancel, id, orig, live, rule)?;
+                one_notice(asked.alloc, asked.member, kind)
             }
-            (None, Some(found)) => self.cancel(alloc, member, id, orig, found),
-            (None, None) => Ok(Vec::new(alloc)),
+            (None, Some(found)) => self.cancel(asked.alloc, asked.member, id, orig, found),
+            (None, None) => Ok(Vec::new(asked.alloc)),
         }
     }
 
@@ -274,108 +275,117 @@ impl Plain {
     /// The state after a replace of a live order, but for its row.
     fn set_terms(
         &mut self,
-        alloc: Global,
-        tick: u32,
-        member: u32,
+        asked: Asked,
         id: &Bytes,
         terms: &Terms,
         live: &Live,
     ) -> Result<(), AllocError>
-        requires { IsTick tick }
-        ensures { IfOk result (λ _. self.new ≡ with_replaced tick member id.now terms.now live.now self.old) }
+        requires { IsTick asked.tick }
+        ensures { IfOk result (λ _. self.new ≡ with_replaced asked.tick asked.member id.now terms.now live.now self.old) }
     {
-        self.set_order(alloc, tick, id, terms, live.number)?;
-        self.use_id(alloc, member, id)
+        self.set_order(asked.alloc, asked.tick, id, terms, live.number)?;
+        self.use_id(asked.alloc, asked.member, id)
     }
 
     /// The quantity of a live order changes.
     #[tactic(auto, unfolding(eager_meaning::specs::Changing::resize))]
     fn resize(
         &mut self,
-        alloc: Global,
-        tick: u32,
-        member: u32,
+        asked: Asked,
         id: &Bytes,
         orig: &Bytes,
         terms: &Terms,
         live: &Live,
     ) -> Result<Vec<Notice>, AllocError>
-        requires { IsTick tick }
+        requires { IsTick asked.tick }
         ensures state { IfOk result (λ _. self.new
-            ≡ (resize tick member id.now orig.now terms.now live.now self.old).state) }
+            ≡ (resize asked.tick asked.member id.now orig.now terms.now live.now self.old).state) }
         ensures notices { IfOk result (λ notices. notices.items
-            ≡ (resize tick member id.now orig.now terms.now live.now self.old).notices) }
+            ≡ (resize asked.tick asked.member id.now orig.now terms.now live.now self.old).notices) }
     {
-        let order = replaced_order(alloc, tick, id, terms, &live.order)?;
+        let order = replaced_order(asked.alloc, asked.tick, id, terms, &live.order)?;
         let leaves = order.quantity.saturating_sub(order.cum);
         let entry = live.row.row.entry;
-        let kind = replaced(alloc, orig, &order, live.row)?;
-        self.set_terms(alloc, tick, member, id, terms, live)?;
-        self.buys = all_with_leaves(alloc, entry, leaves, &self.buys)?;
-        self.sells = all_with_leaves(alloc, entry, leaves, &self.sells)?;
-        one_notice(alloc, member, kind)
+        let kind = replaced(asked.alloc, orig, &order, live.row)?;
+        self.set_terms(asked, id, terms, live)?;
+        self.buys = all_with_leaves(asked.alloc, entry, leaves, &self.buys)?;
+        self.sells = all_with_leaves(asked.alloc, entry, leaves, &self.sells)?;
+        one_notice(asked.alloc, asked.member, kind)
     }
 
     /// A live order leaves and enters anew.
     #[tactic(auto, unfolding(eager_meaning::specs::Changing::arrival_of_replace))]
     fn reenter(
         &mut self,
-        alloc: Global,
-        tick: u32,
-        event: u32,
-        member: u32,
+        asked: Asked,
         id: &Bytes,
         orig: &Bytes,
         terms: &Terms,
         live: &Live,
     ) -> Result<Vec<Notice>, AllocError>
-        requires { IsTick tick }
+        requires { IsTick asked.tick }
         ensures state { IfOk result (λ _. self.new
-            ≡ (enter (arrival_of_replace tick event member id.now orig.now terms.now live.now self.old)).state) }
+            ≡ (enter (arrival_of_replace asked.tick asked.event asked.member id.now orig.now terms.now live.now
+            self.old)).state) }
         ensures notices { IfOk result (λ notices. notices.items
-            ≡ (enter (arrival_of_replace tick event member id.now orig.now terms.now live.now self.old)).notices) }
+            ≡ (enter (arrival_of_replace asked.tick asked.event asked.member id.now orig.now terms.now live.now
+            self.old)).notices) }
     {
-        let x = self.priced_now(row_of(tick, event, live.number, member, live.order.cum, terms));
-        let order = replaced_order(alloc, tick, id, terms, &live.order)?;
-        let kind = replaced(alloc, orig, &order, x)?;
-        self.set_terms(alloc, tick, member, id, terms, live)?;
-        self.take_row(alloc, live.row)?;
-        self.enter(alloc, x, is_immediate(terms), Notice { member, kind })
+        let x = self.priced_now(row_of(
+            asked.tick,
+            asked.event,
+            live.number,
+            asked.member,
+            live.order.cum,
+            terms,
+        ));
+        let order = replaced_order(asked.alloc, asked.tick, id, terms, &live.order)?;
+        let kind = replaced(asked.alloc, orig, &order, x)?;
+        self.set_terms(asked, id, terms, live)?;
+        self.take_row(asked.alloc, live.row)?;
+        self.enter(
+            asked.alloc,
+            x,
+            is_immediate(terms),
+            Notice {
+                member: asked.member,
+                kind,
+            },
+        )
     }
 
     /// A Replace, with the live order that it names and the rule that it breaks, or none.
     #[tactic(auto, unfolding(eager_meaning::specs::Changing::on_replace))]
     pub(crate) fn on_replace(
         &mut self,
-        alloc: Global,
-        tick: u32,
-        event: u32,
-        member: u32,
+        asked: Asked,
         id: &Bytes,
         orig: &Bytes,
         terms: &Terms,
         live: &Option<Live>,
         broken: Option<Rule>,
     ) -> Result<Vec<Notice>, AllocError>
-        requires { IsTick tick }
+        requires { IsTick asked.tick }
         ensures state { IfOk result (λ _. self.new
-            ≡ (on_replace tick event member id.now orig.now terms.now live.now broken self.old).state) }
+            ≡ (on_replace asked.tick asked.event asked.member id.now orig.now terms.now live.now broken
+            self.old).state) }
         ensures notices { IfOk result (λ notices. notices.items
-            ≡ (on_replace tick event member id.now orig.now terms.now live.now broken self.old).notices) }
+            ≡ (on_replace asked.tick asked.event asked.member id.now orig.now terms.now live.now broken
+            self.old).notices) }
     {
         match (broken, live) {
             (Some(rule), live) => {
-                let kind = refusal(alloc, RefusedRequest::Replace, id, orig, live, rule)?;
-                one_notice(alloc, member, kind)
+                let kind = refusal(asked.alloc, RefusedRequest::Replace, id, orig, live, rule)?;
+                one_notice(asked.alloc, asked.member, kind)
             }
             (None, Some(found)) => {
-                if only_lowers(tick, terms, found) {
-                    self.resize(alloc, tick, member, id, orig, terms, found)
+                if only_lowers(asked.tick, terms, found) {
+                    self.resize(asked, id, orig, terms, found)
                 } else {
-                    self.reenter(alloc, tick, event, member, id, orig, terms, found)
+                    self.reenter(asked, id, orig, terms, found)
                 }
             }
-            (None, None) => Ok(Vec::new(alloc)),
+            (None, None) => Ok(Vec::new(asked.alloc)),
         }
     }
 }

@@ -4,6 +4,7 @@ ghost use Rattle.venue_words.specs.Conditions.{IsTick};
 ghost use Rattle.eager_meaning.specs.Matching.{unfilled};
 ghost use Rattle.eager_meaning.specs.Entering.{entered, leftover_notice, leftover_notices, enter, priced_now, accepted_order, with_accepted, arrival_of_new, on_new};
 
+use crate::asked::Asked;
 use crate::matching::{fills_of, row_after, rows_after, takes_of};
 use crate::notices::one_notice;
 use crate::pegging::{best_of, value_under};
@@ -213,32 +214,31 @@ impl Plain {
 
     /// An order is accepted and enters.
     #[tactic(auto, unfolding(eager_meaning::specs::Entering::arrival_of_new))]
-    fn accept(
-        &mut self,
-        alloc: Global,
-        tick: u32,
-        event: u32,
-        member: u32,
-        id: &Bytes,
-        terms: &Terms,
-    ) -> Result<Vec<Notice>, AllocError>
-        requires { IsTick tick }
+    fn accept(&mut self, asked: Asked, id: &Bytes, terms: &Terms) -> Result<Vec<Notice>, AllocError>
+        requires { IsTick asked.tick }
         ensures state { IfOk result (λ _. self.new
-            ≡ (enter (arrival_of_new tick event member id.now terms.now self.old)).state) }
+            ≡ (enter (arrival_of_new asked.tick asked.event asked.member id.now terms.now self.old)).state) }
         ensures notices { IfOk result (λ notices. notices.items
-            ≡ (enter (arrival_of_new tick event member id.now terms.now self.old)).notices) }
+            ≡ (enter (arrival_of_new asked.tick asked.event asked.member id.now terms.now self.old)).notices) }
     {
         let number = u32::try_from(self.orders.len()).map_err(|_| AllocError)?;
-        let order = accepted_order(alloc, tick, event, member, id, terms)?;
-        let x = self.priced_now(row_of(tick, event, number, member, 0, terms));
-        let view = view_of(alloc, &order, Some(x))?;
-        self.add_order(alloc, member, id, order)?;
+        let order = accepted_order(
+            asked.alloc,
+            asked.tick,
+            asked.event,
+            asked.member,
+            id,
+            terms,
+        )?;
+        let x = self.priced_now(row_of(asked.tick, asked.event, number, asked.member, 0, terms));
+        let view = view_of(asked.alloc, &order, Some(x))?;
+        self.add_order(asked.alloc, asked.member, id, order)?;
         self.enter(
-            alloc,
+            asked.alloc,
             x,
             is_immediate(terms),
             Notice {
-                member,
+                member: asked.member,
                 kind: Kind::Order {
                     view,
                     execution: Execution::Accepted,
@@ -251,30 +251,28 @@ impl Plain {
     #[tactic(auto, unfolding(eager_meaning::specs::Entering::on_new))]
     pub(crate) fn on_new(
         &mut self,
-        alloc: Global,
-        tick: u32,
-        event: u32,
-        member: u32,
+        asked: Asked,
         id: &Bytes,
         terms: &Terms,
         broken: Option<Rule>,
     ) -> Result<Vec<Notice>, AllocError>
-        requires { IsTick tick }
-        ensures state { IfOk result (λ _. self.new ≡ (on_new tick event member id.now terms.now broken self.old).state) }
+        requires { IsTick asked.tick }
+        ensures state { IfOk result (λ _. self.new
+            ≡ (on_new asked.tick asked.event asked.member id.now terms.now broken self.old).state) }
         ensures notices { IfOk result (λ notices. notices.items
-            ≡ (on_new tick event member id.now terms.now broken self.old).notices) }
+            ≡ (on_new asked.tick asked.event asked.member id.now terms.now broken self.old).notices) }
     {
         match broken {
             Some(rule) => {
                 let kind = Kind::Rejected {
-                    id: Bytes::copy_of(alloc, id.as_slice())?,
+                    id: Bytes::copy_of(asked.alloc, id.as_slice())?,
                     side: terms.side,
                     quantity: terms.quantity,
                     rule,
                 };
-                one_notice(alloc, member, kind)
+                one_notice(asked.alloc, asked.member, kind)
             }
-            None => self.accept(alloc, tick, event, member, id, terms),
+            None => self.accept(asked, id, terms),
         }
     }
 }

@@ -2,6 +2,7 @@
 //! venue's books to it. No program that serves or replays stands on it.
 #![tactic(auto)]
 
+mod asked;
 mod changing;
 mod entering;
 mod matching;

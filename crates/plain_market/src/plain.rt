@@ -3,6 +3,7 @@ ghost use Rattle.std.specs.Prelude.{◌≡◌, ◌++◌, ◌<◌, IfOk, length, 
 ghost use Rattle.venue_words.specs.Conditions.{IsTick};
 ghost use Rattle.eager_meaning.specs.Step.{reports_from, runs};
 
+use crate::asked::Asked;
 use crate::notices::one_notice;
 use crate::orders::{is_used, known_of, live_named, order_named};
 use crate::views::{row_of_order, view_of};
@@ -125,13 +126,15 @@ impl Plain {
             Command::New { member, id, terms } => {
                 let used = is_used(*member, id.as_slice(), &self.used);
                 let broken = verdict(command, &known_of(tick, used, &None));
-                self.on_new(alloc, tick, event, *member, id, terms.get(), broken)
+                let asked = Asked::new(alloc, tick, event, *member);
+                self.on_new(asked, id, terms.get(), broken)
             }
             Command::Cancel { member, id, orig } => {
                 let live = self.live(alloc, *member, orig)?;
                 let used = is_used(*member, id.as_slice(), &self.used);
                 let broken = verdict(command, &known_of(tick, used, &live));
-                self.on_cancel(alloc, *member, id, orig, &live, broken)
+                let asked = Asked::new(alloc, tick, event, *member);
+                self.on_cancel(asked, id, orig, &live, broken)
             }
             Command::Replace {
                 member,
@@ -142,8 +145,8 @@ impl Plain {
                 let live = self.live(alloc, *member, orig)?;
                 let used = is_used(*member, id.as_slice(), &self.used);
                 let broken = verdict(command, &known_of(tick, used, &live));
-                let terms = terms.get();
-                self.on_replace(alloc, tick, event, *member, id, orig, terms, &live, broken)
+                let asked = Asked::new(alloc, tick, event, *member);
+                self.on_replace(asked, id, orig, terms.get(), &live, broken)
             }
             Command::Status { member, id, side } => self.on_status(alloc, *member, id, *side),
         }
