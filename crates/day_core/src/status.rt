@@ -7,6 +7,7 @@ use day_journal::OpenRefusal;
 use line_reader::{Ending, StatusText};
 use program_words::WordFault;
 use script_text::{LimitCause, LineCause, LineFault};
+use std::fmt;
 
 /// How a day ended.
 #[derive(Clone, Copy, Debug, PartialEq, Eq)]
@@ -132,5 +133,17 @@ impl Ending for DayStatus {
 
     fn to_write_fault(self) -> DayStatus {
         DayStatus::WriteFault
+    }
+}
+
+impl fmt::Display for DayStatus {
+    ghost use Rattle.std.specs.Prelude.{Some};
+
+    ghost output = { λ status. Some (told_of status) };
+
+    fn fmt<W: fmt::Write>(&self, f: &mut fmt::Formatter<W>) -> fmt::Result {
+        let mut text = StatusText::new();
+        self.push_told(&mut text);
+        text.fmt(f)
     }
 }

@@ -5,7 +5,9 @@ ghost use Rattle.venue_words.specs.Causes.{HasCause};
 
 use io_edge::{Failed, Sink};
 use itoa::Buffer;
+use std::fmt;
 use std::marker::Model;
+use std::str::from_utf8;
 
 /// The most bytes of a status's text, with the program's name.
 pub const MAX_STATUS_BYTES: usize = 128;
@@ -81,5 +83,18 @@ impl StatusText {
         let StatusText { mut bytes, len } = self;
         bytes[len] = b'\n';
         err.put(&bytes[..len + 1])
+    }
+}
+
+impl fmt::Display for StatusText {
+    ghost use Rattle.std.specs.Prelude.{Some};
+
+    ghost output = { λ text. Some text };
+
+    fn fmt<W: fmt::Write>(&self, f: &mut fmt::Formatter<W>) -> fmt::Result {
+        match from_utf8(&self.bytes[..self.len]) {
+            Ok(text) => f.write_str(text),
+            Err(_) => Err(fmt::Error),
+        }
     }
 }

@@ -4,6 +4,7 @@ ghost use Rattle.market_data.specs.declared.status.MarketStatus.TheVariants.{Wri
 
 use crate::status::{MarketStatus, cause_name};
 use line_reader::{Ending, StatusText};
+use std::fmt;
 
 impl Ending for MarketStatus {
     ghost told = { told_of };
@@ -50,5 +51,17 @@ impl Ending for MarketStatus {
 
     fn to_write_fault(self) -> MarketStatus {
         MarketStatus::WriteFault
+    }
+}
+
+impl fmt::Display for MarketStatus {
+    ghost use Rattle.std.specs.Prelude.{Some};
+
+    ghost output = { λ status. Some (told_of status) };
+
+    fn fmt<W: fmt::Write>(&self, f: &mut fmt::Formatter<W>) -> fmt::Result {
+        let mut text = StatusText::new();
+        self.push_told(&mut text);
+        text.fmt(f)
     }
 }

@@ -6,6 +6,7 @@ ghost use Rattle.replay_core.specs.declared.status.Status.TheVariants.{WriteFaul
 use crate::status::Status;
 use io_edge::Sink;
 use line_reader::{Ending, StatusText, tell};
+use std::fmt;
 
 /// The name under which a status is told.
 const PROGRAM: &str = "pegreplay";
@@ -48,6 +49,18 @@ impl Ending for Status {
 
     fn to_write_fault(self) -> Status {
         Status::WriteFault
+    }
+}
+
+impl fmt::Display for Status {
+    ghost use Rattle.std.specs.Prelude.{Some};
+
+    ghost output = { λ status. Some (told_of status) };
+
+    fn fmt<W: fmt::Write>(&self, f: &mut fmt::Formatter<W>) -> fmt::Result {
+        let mut text = StatusText::new();
+        self.push_told(&mut text);
+        text.fmt(f)
     }
 }
 
