@@ -1,6 +1,11 @@
 -- Lists that are gathered one by one.
-use Rattle.std.proofs.Common.{◌≡◌, ◌≤◌, ◌+◌, ℕ, zero, suc, Option, Some, None, List, [], ◌∷◌, ◌++◌, length, sym, ◌∙◌, ap, arith, add-one, append_assoc, append-nil}
+use Rattle.std.proofs.Common.{◌≡◌, ◌≤◌, ◌+◌, ℕ, zero, suc, Option, Some, None, List, [], ◌∷◌, ◌++◌, length, refl, sym, ◌∙◌, ap, arith, add-one, append_assoc, append-nil}
+use Rattle.std.proofs.Common.{◌<◌, take}
+use Rattle.std.proofs.Math.Seq.{take-suc}
+use Rattle.std.proofs.lemmas.List.Elements.{filter_map-append}
 use Rattle.std.specs.List.{cons_option, filter_map, flat_map, range_with_len}
+use Rattle.std.specs.Option.{option_to_list}
+use Rattle.std.specs.Prelude.{get_or}
 
 few_more : {Y : Type 0} (o : Option Y) (ys : List Y) (n : ℕ) → length ys ≤ n → length (cons_option o ys) ≤ suc n
 few_more None ys n h = omega (arith, h)
@@ -10,6 +15,19 @@ few_more (Some y) ys n h = omega (arith, h)
 pub few : {X Y : Type 0} (h : X → Option Y) (xs : List X) → length (filter_map h xs) ≤ length xs
 few h [] = omega arith
 few h (x ∷ xs) = few_more (h x) (filter_map h xs) (length xs) (few h xs)
+
+one_more : {Y : Type 0} (o : Option Y) → cons_option o [] ≡ option_to_list o
+one_more None = refl
+one_more (Some y) = refl
+
+-- what is gathered from one more
+pub filter_map_next : {X Y : Type 0} (h : X → Option Y) (xs : List X) (k : ℕ) (x : X) → k < length xs → x ≡ get_or xs k x
+    → filter_map h (take (k + 1) xs) ≡ filter_map h (take k xs) ++ option_to_list (h x)
+filter_map_next {X} h xs k x inside is =
+    ap (λ (n : ℕ). filter_map h (take n xs)) (add-one k)
+    ∙ (ap (filter_map h) (take-suc xs k x inside)
+    ∙ (filter_map-append h (take k xs) (get_or xs k x ∷ [])
+    ∙ ap (λ (ys : List _). filter_map h (take k xs) ++ ys) (ap (λ (y : X). filter_map h (y ∷ [])) (sym is) ∙ one_more (h x))))
 
 flat_more : {A : Type 0} (f : ℕ → List A) (first count : ℕ)
     → flat_map f (range_with_len first (suc count)) ≡ flat_map f (range_with_len first count) ++ f (first + count)

@@ -1,5 +1,5 @@
 //! What an event, a report or a resting order counts for a member.
-ghost use Rattle.std.specs.Prelude.{◌≡◌, IfOk, filter_map, map};
+ghost use Rattle.std.specs.Prelude.{◌≡◌, ◌++◌, IfOk, OnOk, filter_map, map, option_to_list};
 ghost use Rattle.audit_summary.specs.Columns.{accepted_in, breaks, command_in, is_accepted, member_in, rejected_in, shares_in, trade_in};
 
 use exec_reports::parts::{last_quantity_of, rule_of};
@@ -92,14 +92,25 @@ fn rejected_in(rule: u8, report: &Report) -> Option<(u32, u32)>
     }
 }
 
+/// Adds a pair, where there is one.
+fn push_pair(pairs: &mut Vec<(u32, u32)>, pair: Option<(u32, u32)>) -> Result<(), AllocError>
+    ensures { OnOk result (pairs.new.items ≡ pairs.old.items ++ option_to_list pair) }
+{
+    if let Some(pair) = pair {
+        pairs.push(pair)?;
+    }
+    Ok(())
+}
+
 /// What the commands of a journal count.
 pub fn command_pairs(alloc: Global, journal: &[Event]) -> Result<Vec<(u32, u32)>, AllocError>
     ensures { IfOk result (λ pairs. pairs.items ≡ filter_map command_in journal.now) }
 {
-    journal
-        .iter()
-        .filter_map(|event| command_in(event))
-        .collect(alloc)
+    let mut pairs = Vec::new(alloc);
+    for event in journal {
+        push_pair(&mut pairs, command_in(event))?;
+    }
+    Ok(pairs)
 }
 
 /// What reports that orders entered count.
