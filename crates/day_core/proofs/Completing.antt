@@ -1,15 +1,15 @@
 -- Where nothing fails, a whole script comes to its end.
-use Rattle.std.proofs.Common.{◌≡◌, ◌⊎◌, ℕ, true, false, List, [], ◌++◌, take, drop, Option, Some, None, IfSome, unwrap_or, option_map, refl, sym, ◌∙◌, ap, subst, inl, inr}
+use Rattle.std.proofs.Common.{◌≡◌, ◌⊎◌, ℕ, true, false, List, [], take, drop, Option, Some, None, IfSome, unwrap_or, option_map, refl, sym, ◌∙◌, ap, subst, inl, inr}
 use Rattle.std.proofs.lemmas.List.{take-append-drop}
 use Rattle.venue_words.specs.Causes.{Rose}
 use Rattle.day_journal.specs.Disk.{Told}
-use Rattle.day_journal.specs.Log.{Reading, reading}
+use Rattle.day_journal.specs.Log.{reading}
 use Rattle.io_edge.specs.Files.{Files}
 use Rattle.replay_core.specs.Causes.{bytes_named}
 use Rattle.replay_core.specs.Telling.{Seen}
 use Rattle.day_core.specs.Agreement.{IsFront}
 use Rattle.day_core.specs.DayFiles.{DayFiles, IsScript, files_of, script_named}
-use Rattle.day_core.specs.Days.{Ends, Ran, Journaled, lines_of}
+use Rattle.day_core.specs.Days.{Ends, Ran, lines_of}
 use Rattle.day_core.specs.Refusing.{Refusal, refusal}
 use Rattle.day_core.specs.Statuses.{IsTold}
 use Rattle.day_core.specs.declared.status.DayStatus.{DayStatus}

@@ -1,5 +1,5 @@
 -- The lines of a text that goes on behind whole lines.
-use Rattle.std.proofs.Common.{◌≡◌, ℕ, ◌+◌, ◌*◌, ◌≤◌, ◌==◌, Bool, true, false, cond, List, [], ◌∷◌, ◌++◌, length, refl, sym, ◌∙◌, ap, subst, arith, length-append}
+use Rattle.std.proofs.Common.{◌≡◌, ℕ, ◌+◌, ◌*◌, ◌≤◌, ◌==◌, Bool, true, false, cond, List, [], ◌∷◌, ◌++◌, length, refl, ◌∙◌, ap, arith}
 use Rattle.day_journal.specs.Log.{size_of}
 use Rattle.script_text.specs.Lines.{Cut, cut, has_end, onto_line}
 use Rattle.script_text.specs.LinesLaws.{cut_first, cut_whole}

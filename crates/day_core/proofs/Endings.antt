@@ -1,24 +1,22 @@
 -- From the middle of a day's script to how the day ends.
-use Rattle.std.proofs.Common.{◌≡◌, ◌≢◌, ℕ, ◌+◌, ◌-◌, ◌≤◌, ◌<◌, nat_le, nat_lt, cond, get_or, Bool, true, false, List, [], ◌∷◌, ◌++◌, length, take, Option, Some, None, IfSome, is_some, Ok, Err, slice_get, refl, sym, ◌∙◌, ap, subst, append_assoc, append-nil, inl, inr, arith, length-append}
+use Rattle.std.proofs.Common.{◌≡◌, ℕ, ◌+◌, ◌-◌, ◌≤◌, ◌<◌, nat_le, nat_lt, cond, get_or, Bool, true, false, List, [], ◌∷◌, ◌++◌, length, take, Option, Some, None, IfSome, is_some, Ok, Err, slice_get, refl, sym, ◌∙◌, ap, subst, append_assoc, append-nil, arith, length-append}
 use Rattle.std.proofs.lemmas.Bool.Decides.{nat_tests}
 use Rattle.std.proofs.lemmas.Option.{slice_get-get_or, slice_get_within}
-use Rattle.std.proofs.lemmas.List.{take_all}
 use Rattle.std.proofs.Math.Seq.{take-append-add}
 use Rattle.std.specs.Io.KnownBytes.{Appends, Consumes, IsAtEnd}
-use Rattle.io_edge.specs.Grows.{AppendsPrefix}
 use Rattle.venue_words.specs.Floors.{SymbolView}
-use Rattle.venue_words.specs.declared.limits.TheConstants.{MAX_DAY_BYTES, MAX_LINE_BYTES}
+use Rattle.venue_words.specs.declared.limits.TheConstants.{MAX_LINE_BYTES}
 use Rattle.day_journal.specs.Disk.{Told, LeavesOnly}
 use Rattle.day_journal.specs.DiskLaws.{weaker}
-use Rattle.day_journal.specs.Log.{reading, intact, IsBeforeOrAfter}
+use Rattle.day_journal.specs.Log.{reading, intact}
 use Rattle.day_journal.specs.LogView.{LogView}
 use Rattle.line_reader.specs.Reading.{Reading}
 use Rattle.line_reader.specs.ReadingLaws.{taken_more}
 use Rattle.line_reader.specs.NextLines.{HandsOut, IsAllRead, IsTooLong, IsCutOff}
-use Rattle.line_reader.specs.NextLaws.{LongFront, long_front}
+use Rattle.line_reader.specs.NextLaws.{long_front}
 use Rattle.replay_core.specs.Histories.{place_behind}
 use Rattle.replay_core.specs.Play.{Place, Played, Stage, Head, Body, start, step_at, played, script, onto, end_at, end_of, stopped, after_line}
-use Rattle.replay_core.specs.Telling.{Seen, Leads}
+use Rattle.replay_core.specs.Telling.{Seen}
 use Rattle.replay_core.specs.declared.phase.Phase.{Phase}
 use Rattle.replay_core.proofs.Ahead.{played_step, played_end, end_at_text, end_at_fault}
 use Rattle.replay_core.proofs.Leading.{appends_trans}
@@ -32,12 +30,12 @@ use Rattle.day_core.specs.Agreement.{IsFront, DiffersFirst, Agrees, kept}
 use Rattle.day_core.specs.Crashes.{Follows, Holds, Stored}
 use Rattle.day_core.specs.Days.{Cause, IsRefused, Output, PutsPart, Worked, lines_of}
 use Rattle.day_core.specs.Keeping.{Continued, Fails, IsKept, IsNew, IsNotKept, IsOther, ReadAs}
-use Rattle.day_core.specs.Middle.{AtLine, EndsIn, InDay, IsLate, PutsNothing, PutsPartly, RanFile, Stands, Took, ended_by}
-use Rattle.day_core.specs.Refusing.{Refusal, day_step, refusal, refusal_from, refusal_here}
+use Rattle.day_core.specs.Middle.{AtLine, EndsIn, InDay, IsLate, PutsNothing, PutsPartly, RanFile, Stands, ended_by}
+use Rattle.day_core.specs.Refusing.{day_step, refusal, refusal_from, refusal_here}
 use Rattle.day_core.specs.declared.status.DayStatus.{DayStatus}
 use Rattle.day_core.specs.declared.status.DayStatus.TheVariants.{Done, BadWords, BadLine, LimitLine, Differs, Damaged, DiskFault, ReadFault, WriteFault, NoMemory}
 use Rattle.day_core.proofs.Cuts.{cut_behind, lines_behind, lines_push, rest_push, one_line, one_alone, no_line}
-use Rattle.day_core.proofs.Fronts.{front_all, front_trans, front_push, had_other, had_more, had_next, kept_had, kept_past, past_front, past_take}
+use Rattle.day_core.proofs.Fronts.{front_trans, had_other, had_more, kept_past, past_front, past_take}
 use Rattle.day_core.proofs.Logs.{short_line}
 use Rattle.day_core.proofs.Middles.{agrees_next, line_more, line_size}
 use Rattle.day_core.proofs.Refused.{push_behind, refused_behind, refused_line, refused_end, refused_long}

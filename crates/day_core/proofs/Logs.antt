@@ -1,11 +1,11 @@
 -- The lines of a file that reads without damage.
-use Rattle.std.proofs.Common.{◌≡◌, ℕ, zero, suc, ◌+◌, ◌≤◌, ◌<◌, List, [], ◌∷◌, ◌++◌, length, take, drop, get_or, Some, slice_get, refl, sym, ◌∙◌, ap, subst, arith, length-drop, inl, inr, false}
+use Rattle.std.proofs.Common.{◌≡◌, ℕ, zero, suc, ◌+◌, ◌≤◌, List, [], ◌∷◌, length, take, drop, get_or, Some, slice_get, sym, ap, subst, arith, length-drop, inl, inr}
 use Rattle.std.proofs.lemmas.Bool.{cases_lt}
 use Rattle.std.proofs.lemmas.List.{get_or_past, length-take}
-use Rattle.std.proofs.lemmas.Option.{get_or_from_slice_get, slice_get_within}
+use Rattle.std.proofs.lemmas.Option.{get_or_from_slice_get}
 use Rattle.venue_words.specs.declared.limits.TheConstants.{MAX_LINE_BYTES}
-use Rattle.day_journal.specs.Log.{Reading, intact, length_in, line_in, read_all, reading}
-use Rattle.day_journal.specs.LogLaws.{Way, way, shut, whole, bad, read_closed, read_open, read_broken, reading_is, reading_short}
+use Rattle.day_journal.specs.Log.{Reading, intact, length_in, read_all, reading}
+use Rattle.day_journal.specs.LogLaws.{way, shut, whole, bad, read_closed, read_open, read_broken, reading_is, reading_short}
 
 -- each of these lines may stand in a script
 abbrev AreShort : List (List ℕ) → Type 0

@@ -1,6 +1,5 @@
 -- A day's script from line to line.
-use Rattle.std.proofs.Common.{◌≡◌, ℕ, ◌+◌, ◌*◌, ◌-◌, ◌^◌, ◌≤◌, ◌<◌, nat_lt, Bool, true, false, List, [], ◌∷◌, ◌++◌, length, take, Option, Some, slice_get, Ok, refl, sym, ◌∙◌, ap, subst, append_assoc, inl, inr, arith, length-append}
-use Rattle.std.proofs.lemmas.Bool.Decides.{nat_tests}
+use Rattle.std.proofs.Common.{◌≡◌, ℕ, ◌+◌, ◌-◌, ◌^◌, ◌≤◌, ◌<◌, nat_lt, Bool, true, false, List, [], ◌∷◌, ◌++◌, length, take, Option, Some, slice_get, refl, sym, ◌∙◌, ap, subst, append_assoc, arith, length-append}
 use Rattle.std.specs.Io.KnownBytes.{Consumes}
 use Rattle.std.proofs.KnownBytes.{Consumes-nil}
 use Rattle.venue_words.specs.Floors.{SymbolView}
@@ -12,19 +11,19 @@ use Rattle.line_reader.specs.Reading.{Reading, before_lines}
 use Rattle.line_reader.specs.ReadingLaws.{taken_more}
 use Rattle.line_reader.specs.NextLines.{HandsOut}
 use Rattle.replay_core.specs.Histories.{place_behind}
-use Rattle.replay_core.specs.Play.{Place, Played, start, step_at, played}
+use Rattle.replay_core.specs.Play.{Place, start, played}
 use Rattle.replay_core.specs.Reading.{IsAtPlace}
 use Rattle.replay_core.specs.Telling.{Seen, Leads}
 use Rattle.replay_core.specs.declared.phase.Phase.{Phase}
 use Rattle.replay_core.proofs.Leading.{leads_none, leads_trans}
 use Rattle.replay_core.proofs.LineByLine.{line_leads}
-use Rattle.script_text.specs.Lines.{cut, has_end}
+use Rattle.script_text.specs.Lines.{cut}
 use Rattle.day_core.specs.Agreement.{IsFront, kept}
 use Rattle.day_core.specs.Crashes.{Holds}
 use Rattle.day_core.specs.Days.{lines_of}
 use Rattle.day_core.specs.Keeping.{IsKept, IsNew, IsNotKept}
 use Rattle.day_core.specs.declared.status.DayStatus.{DayStatus}
-use Rattle.day_core.specs.Middle.{AtLine, InDay, IsDayLine, PutsLine, Stands, Took}
+use Rattle.day_core.specs.Middle.{AtLine, InDay, IsDayLine, PutsLine, Stands}
 use Rattle.day_core.proofs.Cuts.{lines_push, rest_push, size_within}
 use Rattle.day_core.proofs.Fronts.{front_all, front_none, front_push, had_next, kept_past, past_front, past_take}
 use Rattle.day_core.proofs.Refused.{push_behind}

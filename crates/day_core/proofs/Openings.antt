@@ -1,29 +1,28 @@
 -- Before a script is worked, and around it.
-use Rattle.std.proofs.Common.{◌≡◌, ◌≢◌, ◌⊎◌, ℕ, ◌≤◌, Bool, true, false, List, [], ◌++◌, Option, Some, None, IfSome, IsSome, IsNone, is_some, unwrap_or, option_and_then, option_map, refl, sym, ◌∙◌, ap, subst, inl, inr, ⊎_elim, arith}
+use Rattle.std.proofs.Common.{◌≡◌, ℕ, ◌≤◌, true, false, List, [], Option, Some, None, IfSome, IsSome, IsNone, unwrap_or, option_map, refl, sym, ◌∙◌, ap, subst, inl, inr, arith}
 use Rattle.day_journal.specs.Disk.{Told, Only, LeavesOnly, Unchanged}
 use Rattle.day_journal.specs.DiskLaws.{stays, weaker, goes_on}
-use Rattle.day_journal.specs.Log.{Reading, reading, intact, size_of}
+use Rattle.day_journal.specs.Log.{Reading, reading, intact}
 use Rattle.day_journal.specs.LogView.{LogView}
 use Rattle.day_journal.specs.Refusals.{IfDamaged, ReadsAsOne}
 use Rattle.day_journal.specs.declared.refusal.OpenRefusal.{OpenRefusal}
 use Rattle.day_journal.specs.declared.refusal.OpenRefusal.TheVariants as opening
 use Rattle.io_edge.specs.Files.{Files, Opens, file_named}
-use Rattle.program_words.specs.Words.{remaining}
 use Rattle.program_words.specs.declared.WordFault.{WordFault}
 use Rattle.program_words.specs.declared.WordFault.TheVariants as word
 use Rattle.replay_core.specs.Causes.{bytes_named}
 use Rattle.replay_core.specs.Histories.{place_behind}
-use Rattle.replay_core.specs.Play.{Place, Played, start, script, played, play, end_at}
+use Rattle.replay_core.specs.Play.{start, script, played, play, end_at}
 use Rattle.replay_core.specs.Telling.{Seen}
 use Rattle.replay_core.proofs.Leading.{appends_none}
 use Rattle.script_text.specs.Lines.{cut}
 use Rattle.std.specs.Io.KnownBytes.{Appends}
 use Rattle.day_core.specs.Agreement.{Agrees, IsFront}
-use Rattle.day_core.specs.Crashes.{Found, Follows, Holds, HoldsFirst, IsGrown, Stored}
+use Rattle.day_core.specs.Crashes.{Found, Follows, Holds, HoldsFirst, Stored}
 use Rattle.day_core.specs.DayFiles.{DayFiles, IsScript, LacksScript, files_of, script_named}
 use Rattle.day_core.specs.Days.{Cause, Ends, IsEarly, Journaled, Output, Ran, Worked, lines_of}
 use Rattle.day_core.specs.Keeping.{Continued, ReadAs}
-use Rattle.day_core.specs.Middle.{IsLate, RanFile, Stands}
+use Rattle.day_core.specs.Middle.{IsLate, RanFile}
 use Rattle.day_core.specs.Opening.{HasLines, IsNotOpened, IsOpened, IsOpening, RanFiles, RanScript}
 use Rattle.day_core.specs.Statuses.{opening_refused, words_refused}
 use Rattle.day_core.specs.declared.status.DayStatus.{DayStatus}

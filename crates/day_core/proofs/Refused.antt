@@ -1,14 +1,14 @@
 -- Where a script is refused in a day.
-use Rattle.std.proofs.Common.{◌≡◌, ◌==◌, ℕ, ◌+◌, ◌≤◌, ◌<◌, nat_lt, Bool, true, false, cond, List, [], ◌∷◌, ◌++◌, length, Option, Some, None, option_map, Result, Ok, Err, refl, sym, ◌∙◌, ap, subst, append_assoc, arith, length-append}
+use Rattle.std.proofs.Common.{◌≡◌, ◌==◌, ℕ, ◌+◌, ◌≤◌, ◌<◌, nat_lt, Bool, true, false, cond, List, [], ◌∷◌, ◌++◌, length, Option, Some, None, option_map, Result, Ok, Err, refl, sym, ◌∙◌, ap, arith, length-append}
 use Rattle.std.proofs.lemmas.Bool.Decides.{nat_tests}
 use Rattle.venue_words.specs.declared.limits.TheConstants.{MAX_DAY_BYTES, MAX_LINE_BYTES, MAX_SCRIPT_BYTES}
-use Rattle.line_reader.specs.Over.{over, over_fault, weighed}
+use Rattle.line_reader.specs.Over.{over, weighed}
 use Rattle.replay_core.specs.Histories.{place_behind, behind_result}
-use Rattle.replay_core.specs.Play.{Place, Stage, Played, Turned, step_at, stepped, placed, refused_at, next_place, turned, end_at, stopped, after_result, play, start, script, played}
+use Rattle.replay_core.specs.Play.{Place, Stage, Played, Turned, step_at, stepped, placed, refused_at, next_place, turned, end_at, after_result, play, start, played}
 use Rattle.script_text.specs.Lines.{Cut, cut, has_end, onto_line}
 use Rattle.script_text.specs.LinesLaws.{cut_joined, joined}
 use Rattle.script_text.specs.declared.fault.LineFault.{LineFault}
-use Rattle.script_text.specs.declared.fault.LineFault.TheVariants.{Bad, Limit, NoMemory}
+use Rattle.script_text.specs.declared.fault.LineFault.TheVariants.{Limit}
 use Rattle.script_text.specs.declared.fault.LimitCause.TheVariants.{Line}
 use Rattle.day_core.specs.Refusing.{Refusal, day_step, refusal, refusal_behind, refusal_from, refusal_here, RefusesAsReplay}
 

@@ -1,13 +1,13 @@
 -- A journal on an honest disk, from line to line.
-use Rattle.std.proofs.Common.{◌≡◌, ℕ, ◌+◌, ◌-◌, ◌≤◌, ◌<◌, ◌⊎◌, Bool, true, false, List, [], ◌∷◌, ◌++◌, length, Some, slice_get, refl, sym, ◌∙◌, ap, subst, inl, inr, arith, length-append}
-use Rattle.day_journal.specs.Disk.{Told, Only, LeavesOnly}
+use Rattle.std.proofs.Common.{◌≡◌, ℕ, ◌+◌, ◌-◌, ◌≤◌, true, false, List, [], ◌∷◌, ◌++◌, length, Some, slice_get, refl, sym, ◌∙◌, ap, subst, inl, inr, arith, length-append}
+use Rattle.day_journal.specs.Disk.{Told, LeavesOnly}
 use Rattle.day_journal.specs.DiskLaws.{stays, weaker, goes_on}
 use Rattle.day_journal.specs.Log.{Reading, reading, intact, size_of, IsBeforeOrAfter}
 use Rattle.day_journal.specs.LogLaws.{size_of-push}
 use Rattle.day_journal.specs.LogView.{LogView}
 use Rattle.day_core.specs.Agreement.{IsFront, kept}
-use Rattle.day_core.specs.Crashes.{Follows, Holds, HoldsFirst, IsGrown}
-use Rattle.day_core.specs.Keeping.{AppendsLine, Fails, IsKept, IsNew, Keeps, ReadAs}
+use Rattle.day_core.specs.Crashes.{Follows, Holds, HoldsFirst}
+use Rattle.day_core.specs.Keeping.{AppendsLine, IsKept, ReadAs}
 use Rattle.day_core.specs.Middle.{Stands}
 use Rattle.day_core.proofs.Fronts.{front_all, front_trans, front_push, kept_past, kept_same}
 

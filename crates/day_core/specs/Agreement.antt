@@ -1,7 +1,7 @@
 -- The lines of a journal beside those of a script.
 use Rattle.std.specs.Prelude.{◌≡◌, ℕ, ◌+◌, ◌-◌, List, ◌++◌, take, length, drop}
 use Rattle.day_core.specs.declared.status.DayStatus.{DayStatus}
-use Rattle.day_core.specs.declared.status.DayStatus.TheVariants.{Done, BadWords, BadLine, LimitLine, Differs, Damaged, DiskFault, ReadFault, WriteFault, NoMemory}
+use Rattle.day_core.specs.declared.status.DayStatus.TheVariants.{Done, BadLine, LimitLine, Differs}
 
 -- these lines are the first ones of those
 abbrev pub IsFront : List (List ℕ) → List (List ℕ) → Type 0

@@ -1,11 +1,11 @@
 -- What a crash leaves of a journal, at any moment of a day and behind it.
-use Rattle.std.specs.Prelude.{◌≡◌, ◌⊎◌, ℕ, Bool, true, false, List}
+use Rattle.std.specs.Prelude.{◌≡◌, ◌⊎◌, ℕ, true, false, List}
 use Rattle.day_journal.specs.Disk.{Told, Only}
 use Rattle.day_journal.specs.Log.{Reading, reading, intact, size_of}
 use Rattle.day_journal.specs.Refusals.{ReadsAsOne}
 use Rattle.day_core.specs.Agreement.{IsFront, kept}
 use Rattle.day_core.specs.declared.status.DayStatus.{DayStatus}
-use Rattle.day_core.specs.declared.status.DayStatus.TheVariants.{Done, BadWords, BadLine, LimitLine, Differs, Damaged, DiskFault, ReadFault, WriteFault, NoMemory}
+use Rattle.day_core.specs.declared.status.DayStatus.TheVariants.{Done, BadWords, Damaged, DiskFault, NoMemory}
 
 -- a file of whole lines: they are the first ones of these, and they begin with the lines of one of those files
 pub record IsGrown (lines : List (List ℕ)) (files : List ℕ → Type 0) (file : List ℕ) : Type 0 where

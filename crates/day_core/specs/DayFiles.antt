@@ -1,5 +1,5 @@
 -- What the words of a run name: a script and a journal.
-use Rattle.std.specs.Prelude.{◌≡◌, ℕ, List, [], ◌∷◌, Option, Some, None, option_and_then, option_map, unwrap_or, IsSome, IsNone, map}
+use Rattle.std.specs.Prelude.{◌≡◌, ℕ, List, [], ◌∷◌, Option, Some, None, option_and_then, option_map, unwrap_or, IsSome, IsNone}
 use Rattle.io_edge.specs.Files.{Files}
 use Rattle.program_words.specs.Words.{remaining}
 use Rattle.replay_core.specs.Causes.{bytes_named}

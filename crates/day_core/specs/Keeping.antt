@@ -1,12 +1,12 @@
 -- A journal in the middle of a day.
-use Rattle.std.specs.Prelude.{◌≡◌, ◌≢◌, ◌≤◌, ◌<◌, ◌+◌, ◌-◌, ℕ, Bool, true, false, List, ◌∷◌, [], ◌++◌, length, slice_get, Some}
+use Rattle.std.specs.Prelude.{◌≡◌, ◌≢◌, ◌<◌, ◌+◌, ◌-◌, ℕ, Bool, true, false, List, ◌∷◌, [], ◌++◌, length, slice_get, Some}
 use Rattle.day_journal.specs.Disk.{Told, Only, LeavesOnly}
 use Rattle.day_journal.specs.Log.{reading, intact, IsBeforeOrAfter}
 use Rattle.day_journal.specs.LogView.{LogView}
 use Rattle.day_core.specs.Agreement.{Agrees}
 use Rattle.day_core.specs.Crashes.{Follows, Stored}
 use Rattle.day_core.specs.declared.status.DayStatus.{DayStatus}
-use Rattle.day_core.specs.declared.status.DayStatus.TheVariants.{Done, BadWords, BadLine, LimitLine, Differs, Damaged, DiskFault, ReadFault, WriteFault, NoMemory}
+use Rattle.day_core.specs.declared.status.DayStatus.TheVariants.{BadLine, LimitLine, Differs, DiskFault, WriteFault, NoMemory}
 
 -- whether the script's line of a number is behind all that a journal had, or is the journal's
 abbrev pub IsNew : List (List ℕ) → ℕ → List ℕ → Bool → Type 0

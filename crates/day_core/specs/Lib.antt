@@ -1,9 +1,10 @@
-pub mod DayFiles
 pub mod Agreement
-pub mod Refusing
 pub mod Crashes
-pub mod Statuses
-pub mod Keeping
-pub mod Opening
+pub mod DayFiles
 pub mod Days
+pub mod Faults
+pub mod Keeping
 pub mod Middle
+pub mod Opening
+pub mod Refusing
+pub mod Statuses

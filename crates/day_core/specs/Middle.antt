@@ -1,5 +1,5 @@
 -- A day's script in the middle of its lines.
-use Rattle.std.specs.Prelude.{◌≡◌, ◌≤◌, ◌+◌, ℕ, true, false, Bool, List, [], ◌∷◌, ◌++◌, length, take, nat_lt, Option, Some, None, Ok, Err, IfSome, Result}
+use Rattle.std.specs.Prelude.{◌≡◌, ◌≤◌, ◌+◌, ℕ, true, false, Bool, List, [], ◌++◌, length, take, nat_lt, Option, Some, None, Ok, Err, IfSome}
 use Rattle.std.specs.Io.KnownBytes.{Appends, Consumes}
 use Rattle.io_edge.specs.Grows.{AppendsPrefix}
 use Rattle.venue_words.specs.Floors.{SymbolView}
@@ -23,7 +23,7 @@ use Rattle.day_core.specs.Keeping.{Continued, ReadAs}
 use Rattle.day_core.specs.Refusing.{day_step}
 use Rattle.day_core.specs.Statuses.{refused}
 use Rattle.day_core.specs.declared.status.DayStatus.{DayStatus}
-use Rattle.day_core.specs.declared.status.DayStatus.TheVariants.{Done, BadWords, BadLine, LimitLine, Differs, Damaged, DiskFault, ReadFault, WriteFault, NoMemory}
+use Rattle.day_core.specs.declared.status.DayStatus.TheVariants.{Done, BadWords, BadLine, LimitLine, Differs, Damaged, DiskFault, WriteFault, NoMemory}
 
 -- a line of this number stands behind a place that is within the day's limit, and holds the byte past it or not
 pub record IsDayLine (number : ℕ) (text : List ℕ) (is_over : Bool) (place : Place) : Type 0 where

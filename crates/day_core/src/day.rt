@@ -8,6 +8,7 @@ ghost use Rattle.replay_core.specs.Telling.{seen};
 ghost use Rattle.day_core.specs.Crashes.{Holds};
 ghost use Rattle.day_core.specs.DayFiles.{IsNamed, files_of, journal_named, script_named};
 ghost use Rattle.day_core.specs.Days.{Ends};
+ghost use Rattle.day_core.specs.Faults.{IsCaused, faults};
 ghost use Rattle.day_core.specs.Opening.{RanFiles, RanScript};
 ghost use Rattle.day_core.specs.Statuses.{IsTold, words_refused};
 
@@ -46,12 +47,8 @@ fn work_script<F: PlainFloor, H: Shelf, D: Disk, K: Sink, L: Ledger>(
     ensures ran { RanScript (H.told shelf.old) name.now journal.old.lines.items (D.told journal.old.log.disk) (D.told journal.new.log.disk)
         (seen (K.told out.old) steps.old) (seen (K.told out.new) steps.new) result }
     ensures named { D.file_name journal.new.log.disk ≡ D.file_name journal.old.log.disk }
-    ensures read_later { H.faults shelf.old ≤ H.faults shelf.new }
-    ensures write_later { K.faults out.old ≤ K.faults out.new }
-    ensures disk_later { D.faults journal.old.log.disk ≤ D.faults journal.new.log.disk }
-    ensures read { result ≡ DayStatus.ReadFault → Rose (H.faults shelf.old) (H.faults shelf.new) }
-    ensures write { result ≡ DayStatus.WriteFault → Rose (K.faults out.old) (K.faults out.new) }
-    ensures disk { result ≡ DayStatus.DiskFault → Rose (D.faults journal.old.log.disk) (D.faults journal.new.log.disk) }
+    ensures caused { IsCaused (faults (H.faults shelf.old) (K.faults out.old) (D.faults journal.old.log.disk))
+        (faults (H.faults shelf.new) (K.faults out.new) (D.faults journal.new.log.disk)) result }
     ensures sure { IsTrue (H.sure shelf.old) → HasFile (H.told shelf.old) name.now → result ≢ DayStatus.ReadFault }
 {
     let mut reader = match LineReader::new(alloc, 0, MAX_DAY_BYTES) {
@@ -78,12 +75,8 @@ fn work_files<F: PlainFloor, H: Shelf, D: Disk, K: Sink, L: Ledger>(
     ensures ran { RanFiles (H.told shelf.old) files.entry.script.now (D.told disk) (D.told result.1)
         (seen (K.told out.old) steps.old) (seen (K.told out.new) steps.new) result.0 }
     ensures journal { D.begun result.1 ≡ true → IfSome (D.file_name result.1) (λ name. name ≡ files.entry.journal.now) }
-    ensures read_later { H.faults shelf.old ≤ H.faults shelf.new }
-    ensures write_later { K.faults out.old ≤ K.faults out.new }
-    ensures disk_later { D.faults disk ≤ D.faults result.1 }
-    ensures read { result.0 ≡ DayStatus.ReadFault → Rose (H.faults shelf.old) (H.faults shelf.new) }
-    ensures write { result.0 ≡ DayStatus.WriteFault → Rose (K.faults out.old) (K.faults out.new) }
-    ensures disk { result.0 ≡ DayStatus.DiskFault → Rose (D.faults disk) (D.faults result.1) }
+    ensures caused { IsCaused (faults (H.faults shelf.old) (K.faults out.old) (D.faults disk))
+        (faults (H.faults shelf.new) (K.faults out.new) (D.faults result.1)) result.0 }
     ensures sure { IsTrue (H.sure shelf.old) → HasFile (H.told shelf.old) files.entry.script.now → result.0 ≢ DayStatus.ReadFault }
 {
     let mut journal = match open_journal(alloc, disk, files.journal) {
@@ -108,14 +101,10 @@ fn answer<F: PlainFloor, H: Shelf, D: Disk, K: Sink, L: Ledger>(
         (seen (K.told out.old) steps.old) (seen (K.told out.new) steps.new) result.0 }
     ensures other_words { files_of (texts words.now) ≡ None → result.1 ≡ disk }
     ensures journal { D.begun result.1 ≡ true → IsNamed (D.file_name result.1) (journal_named (texts words.now)) }
-    ensures read { result.0 ≡ DayStatus.ReadFault → Rose (H.faults shelf.old) (H.faults shelf.new) }
-    ensures write { result.0 ≡ DayStatus.WriteFault → Rose (K.faults out.old) (K.faults out.new) }
-    ensures disk { result.0 ≡ DayStatus.DiskFault → Rose (D.faults disk) (D.faults result.1) }
+    ensures caused { IsCaused (faults (H.faults shelf.old) (K.faults out.old) (D.faults disk))
+        (faults (H.faults shelf.new) (K.faults out.new) (D.faults result.1)) result.0 }
     ensures sure { IsTrue (H.sure shelf.old) → (name : List ℕ) → script_named (texts words.now) ≡ Some name →
         HasFile (H.told shelf.old) name → result.0 ≢ DayStatus.ReadFault }
-    ensures read_later { H.faults shelf.old ≤ H.faults shelf.new }
-    ensures write_later { K.faults out.old ≤ K.faults out.new }
-    ensures disk_later { D.faults disk ≤ D.faults result.1 }
 {
     let read = match read_words(alloc, words) {
         Ok(read) => read,

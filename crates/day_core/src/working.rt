@@ -9,6 +9,7 @@ ghost use Rattle.replay_core.specs.Play.{Place, start};
 ghost use Rattle.replay_core.specs.Reading.{IsAtPlace, fault_in};
 ghost use Rattle.replay_core.specs.Telling.{seen};
 ghost use Rattle.day_core.specs.Crashes.{Holds};
+ghost use Rattle.day_core.specs.Faults.{IsCaused, faults};
 ghost use Rattle.day_core.specs.Middle.{RanFile, ended_by};
 
 use crate::journal::Journal;
@@ -63,12 +64,8 @@ pub(crate) fn work_file<F: PlainFloor, H: Shelf, D: Disk, K: Sink, L: Ledger>(
     ensures ran { RanFile (H.left shelf.old) journal.old.lines.items (D.told journal.old.log.disk) (D.told journal.new.log.disk)
         (seen (K.told out.old) steps.old) (seen (K.told out.new) steps.new) result }
     ensures named { D.file_name journal.new.log.disk ≡ D.file_name journal.old.log.disk }
-    ensures read_later { H.faults shelf.old ≤ H.faults shelf.new }
-    ensures write_later { K.faults out.old ≤ K.faults out.new }
-    ensures disk_later { D.faults journal.old.log.disk ≤ D.faults journal.new.log.disk }
-    ensures read { result ≡ DayStatus.ReadFault → Rose (H.faults shelf.old) (H.faults shelf.new) }
-    ensures write { result ≡ DayStatus.WriteFault → Rose (K.faults out.old) (K.faults out.new) }
-    ensures disk { result ≡ DayStatus.DiskFault → Rose (D.faults journal.old.log.disk) (D.faults journal.new.log.disk) }
+    ensures caused { IsCaused (faults (H.faults shelf.old) (K.faults out.old) (D.faults journal.old.log.disk))
+        (faults (H.faults shelf.new) (K.faults out.new) (D.faults journal.new.log.disk)) result }
     ensures sure { IsTrue (H.sure shelf.old) → result ≢ DayStatus.ReadFault }
 {
     loop {

@@ -1,4 +1,4 @@
-use Rattle.std.proofs.Common.{◌≡◌, refl, ⊎_elim}
+use Rattle.std.proofs.Common.{refl, ⊎_elim}
 use Rattle.day_core.proofs.Completing.{whole_day}
 use Rattle.day_core.proofs.complete.day_whole.Goals as goal
 

@@ -1,4 +1,4 @@
-use Rattle.std.proofs.Common.{◌≡◌, ◌∙◌, sym, subst}
+use Rattle.std.proofs.Common.{◌∙◌, sym, subst}
 use Rattle.day_core.specs.Opening.{IsNotOpened}
 use Rattle.day_core.proofs.Openings.{has_lines, not_opened}
 use Rattle.day_core.proofs.journal.open_journal.Goals as goal

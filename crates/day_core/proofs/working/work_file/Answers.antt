@@ -1,8 +1,7 @@
-use Rattle.std.proofs.Common.{◌≡◌, ℕ, ◌+◌, ◌≤◌, ◌<◌, true, List, length, nat_le, Vec, refl, sym, ◌∙◌, ap, arith, subst}
+use Rattle.std.proofs.Common.{ℕ, ◌+◌, List, length, nat_le, Vec, refl, ◌∙◌, ap, arith}
 use Rattle.std.specs.declared.alloc.Global.{Global}
 use Rattle.line_reader.specs.Reading.{Reading}
 use Rattle.line_reader.specs.NextLaws.{gives_line, gives_end, gives_long, gives_fault}
-use Rattle.replay_core.proofs.Outcomes.{line_within}
 use Rattle.day_core.proofs.Endings.{cut_off, end_differs, line_ends, long_differs, long_limit, script_ends}
 use Rattle.day_core.proofs.Middles.{at_next, at_start, kept_at, line_at, not_kept_at, room}
 use Rattle.day_core.proofs.working.work_file.Goals as goal

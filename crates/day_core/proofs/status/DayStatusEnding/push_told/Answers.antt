@@ -1,4 +1,4 @@
-use Rattle.std.proofs.Common.{◌≡◌, ℕ, List, ◌++◌, decimal, sym, ◌∙◌, ap, append_assoc}
+use Rattle.std.proofs.Common.{ℕ, List, ◌++◌, decimal, sym, ◌∙◌, ap, append_assoc}
 use Rattle.day_core.specs.Statuses.{told_of}
 use Rattle.day_core.specs.declared.status.DayStatus.{DayStatus}
 use Rattle.day_core.proofs.status.DayStatusEnding.push_told.Goals as goal
