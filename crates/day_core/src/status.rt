@@ -4,7 +4,7 @@ ghost use Rattle.day_core.specs.Statuses.{exit_of, opening_refused, refused, tol
 ghost use Rattle.day_core.specs.declared.status.DayStatus.TheVariants.{WriteFault};
 
 use day_journal::OpenRefusal;
-use line_reader::{Ending, StatusText};
+use line_reader::{Ending, StatusText, told_text};
 use program_words::WordFault;
 use script_text::{LimitCause, LineCause, LineFault};
 use std::fmt;
@@ -142,8 +142,6 @@ impl fmt::Display for DayStatus {
     ghost output = { λ status. Some (told_of status) };
 
     fn fmt<W: fmt::Write>(&self, f: &mut fmt::Formatter<W>) -> fmt::Result {
-        let mut text = StatusText::new();
-        self.push_told(&mut text);
-        text.fmt(f)
+        told_text(*self).fmt(f)
     }
 }

@@ -2,7 +2,7 @@
 ghost use Rattle.std.specs.Prelude.{◌≡◌, ◌<◌, is_some, [], ◌∷◌, ◌++◌, codes};
 ghost use Rattle.venue_words.specs.Conditions.{IsTick};
 ghost use Rattle.eager_meaning.specs.Terms.{passes, is_among, price_in, offset_in, minimum_in};
-ghost use Rattle.eager_meaning.specs.Verdict.{fails, side_code, terms_tests, first_broken, verdict};
+ghost use Rattle.eager_meaning.specs.Verdict.{fails, side_code, terms_tests, new_tests, replace_tests, first_broken, verdict};
 
 use crate::amount::{minimum_in, offset_in, price_in, quantity_in};
 use crate::known::Known;
@@ -11,12 +11,12 @@ use venue_words::{Command, Rule, Side, Terms};
 
 /// The first rule that is broken.
 #[tactic(auto, unfolding(crate::specs::Verdict::first_broken))]
-fn first_broken(tests: &[(bool, u8)]) -> Option<Rule>
+fn first_broken(tests: &[(bool, Rule)]) -> Option<Rule>
     ensures { result ≡ first_broken tests.now }
 {
     for (is_broken, rule) in tests {
         if *is_broken {
-            return Some(Rule(*rule));
+            return Some(*rule);
         }
     }
     None
@@ -83,26 +83,32 @@ fn is_peg(peg: Option<u32>) -> bool
 
 /// The tests that a New and a Replace have in common.
 #[tactic(auto, unfolding(crate::specs::Verdict::terms_tests))]
-fn terms_tests(tick: u32, terms: &Terms) -> [(bool, u8); 11]
+fn terms_tests(tick: u32, terms: &Terms) -> [(bool, Rule); 11]
     requires { IsTick tick }
     ensures { result ≡ terms_tests tick terms.now }
 {
     let pegged = is_pegged(terms);
     [
-        (terms.kind != b'2' && terms.kind != b'P', 5),
-        (fails_force(terms.force), 6),
-        (!pegged && terms.price.is_none(), 7),
-        (fails_price(tick, terms.price), 8),
-        (pegged && !is_peg(terms.peg), 9),
-        (pegged && fails_code(0, 0, terms.moves), 10),
-        (pegged && fails_code(0, 2, terms.offset_kind), 11),
+        (terms.kind != b'2' && terms.kind != b'P', Rule::OrderType),
+        (fails_force(terms.force), Rule::TimeInForce),
+        (!pegged && terms.price.is_none(), Rule::NoPrice),
+        (fails_price(tick, terms.price), Rule::Price),
+        (pegged && !is_peg(terms.peg), Rule::PegPrice),
+        (pegged && fails_code(0, 0, terms.moves), Rule::PegMove),
+        (
+            pegged && fails_code(0, 2, terms.offset_kind),
+            Rule::PegOffsetType,
+        ),
         (
             pegged && fails_offset(tick, terms.offset_kind, terms.offset),
-            12,
+            Rule::PegOffset,
         ),
-        (pegged && fails_code(1, 2, terms.round), 13),
-        (fails_minimum(quantity_of(terms), terms.minimum), 14),
-        (fails_code(1, 2, terms.method), 15),
+        (pegged && fails_code(1, 2, terms.round), Rule::PegRounding),
+        (
+            fails_minimum(quantity_of(terms), terms.minimum),
+            Rule::Minimum,
+        ),
+        (fails_code(1, 2, terms.method), Rule::MinimumMethod),
     ]
 }
 
@@ -116,8 +122,31 @@ fn side_code(side: Side) -> u8
     }
 }
 
+/// The tests of a New before those of its other terms.
+fn new_tests(terms: &Terms, known: &Known) -> [(bool, Rule); 3]
+    ensures { result ≡ new_tests terms.now known.now }
+{
+    [
+        (known.used, Rule::UsedId),
+        (quantity_in(terms.quantity).is_none(), Rule::Quantity),
+        (terms.side != b'1' && terms.side != b'2', Rule::Side),
+    ]
+}
+
+/// The tests of a Replace before those of its other terms.
+fn replace_tests(terms: &Terms, known: &Known) -> [(bool, Rule); 4]
+    ensures { result ≡ replace_tests terms.now known.now }
+{
+    [
+        (known.used, Rule::UsedId),
+        (!known.live, Rule::UnknownOrder),
+        (terms.side != side_code(known.side), Rule::OtherSide),
+        (quantity_in(terms.quantity).is_none(), Rule::Quantity),
+    ]
+}
+
 /// The first of these tests that is broken, and else of those.
-fn first_of(tests: &[(bool, u8)], others: &[(bool, u8)]) -> Option<Rule>
+fn first_of(tests: &[(bool, Rule)], others: &[(bool, Rule)]) -> Option<Rule>
     ensures { result ≡ first_broken (tests.now ++ others.now) }
 {
     match first_broken(tests) {
@@ -127,7 +156,11 @@ fn first_of(tests: &[(bool, u8)], others: &[(bool, u8)]) -> Option<Rule>
 }
 
 /// The same of three lists.
-fn first_of_three(tests: &[(bool, u8)], others: &[(bool, u8)], last: &[(bool, u8)]) -> Option<Rule>
+fn first_of_three(
+    tests: &[(bool, Rule)],
+    others: &[(bool, Rule)],
+    last: &[(bool, Rule)],
+) -> Option<Rule>
     ensures { result ≡ first_broken (tests.now ++ (others.now ++ last.now)) }
 {
     match first_broken(tests) {
@@ -148,27 +181,19 @@ pub fn verdict(command: &Command, known: &Known) -> Option<Rule>
         Command::Quote { .. } | Command::Status { .. } => first_broken(&[]),
         Command::New { terms, .. } => {
             let terms = terms.get();
-            first_of(
-                &[
-                    (known.used, 2),
-                    (quantity_in(terms.quantity).is_none(), 3),
-                    (terms.side != b'1' && terms.side != b'2', 4),
-                ],
-                &terms_tests(known.tick, terms),
-            )
+            first_of(&new_tests(terms, known), &terms_tests(known.tick, terms))
         }
-        Command::Cancel { .. } => first_broken(&[(known.used, 2), (!known.live, 16)]),
+        Command::Cancel { .. } => first_broken(&[
+            (known.used, Rule::UsedId),
+            (!known.live, Rule::UnknownOrder),
+        ]),
         Command::Replace { terms, .. } => {
             let terms = terms.get();
+            let is_traded = quantity_of(terms) <= known.cum;
             first_of_three(
-                &[
-                    (known.used, 2),
-                    (!known.live, 16),
-                    (terms.side != side_code(known.side), 17),
-                    (quantity_in(terms.quantity).is_none(), 3),
-                ],
+                &replace_tests(terms, known),
                 &terms_tests(known.tick, terms),
-                &[(quantity_of(terms) <= known.cum, 18)],
+                &[(is_traded, Rule::TradedQuantity)],
             )
         }
     }

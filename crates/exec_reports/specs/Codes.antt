@@ -1,8 +1,9 @@
 -- The codes of values on the wire.
-use Rattle.std.specs.Prelude.{ℕ, ◌==◌, ◌||◌, if◌then◌else◌}
+use Rattle.std.specs.Prelude.{ℕ}
 use Rattle.venue_words.specs.declared.price.Side.{Side}
 use Rattle.venue_words.specs.declared.price.Side.TheVariants.{Buy, Sell}
-use Rattle.venue_words.specs.declared.command.Rule.{Rule}
+use Rattle.venue_words.specs.declared.rule.Rule.{Rule}
+use Rattle.venue_words.specs.declared.rule.Rule.TheVariants as rule
 use Rattle.venue_words.specs.declared.report.OrderStatus.{OrderStatus}
 use Rattle.venue_words.specs.declared.report.OrderStatus.TheVariants.{New, PartiallyFilled, Filled, Canceled}
 use Rattle.venue_words.specs.declared.report.RefusedRequest.{RefusedRequest}
@@ -27,14 +28,18 @@ request_code Replace = 50
 
 -- the reason for which a New is rejected
 unfoldable pub reject_reason : Rule → ℕ
-reject_reason rule =
-    if rule.0 == 1 then 1
-    else (if rule.0 == 2 then 6
-    else (if (rule.0 == 3) || (rule.0 == 14) then 13
-    else (if (rule.0 == 7) || ((rule.0 == 8) || (rule.0 == 12)) then 99 else 11)))
+reject_reason rule.UnknownSymbol = 1
+reject_reason rule.UsedId = 6
+reject_reason rule.Quantity = 13
+reject_reason rule.Minimum = 13
+reject_reason rule.NoPrice = 99
+reject_reason rule.Price = 99
+reject_reason rule.PegOffset = 99
+reject_reason _ = 11
 
 -- the reason for which a Cancel or a Replace is refused
 unfoldable pub refuse_reason : Rule → ℕ
-refuse_reason rule =
-    if (rule.0 == 1) || (rule.0 == 16) then 1
-    else (if rule.0 == 2 then 6 else 99)
+refuse_reason rule.UnknownSymbol = 1
+refuse_reason rule.UnknownOrder = 1
+refuse_reason rule.UsedId = 6
+refuse_reason _ = 99

@@ -7,6 +7,7 @@ use Rattle.venue_words.specs.declared.report.Kind.TheVariants.{Order, Rejected, 
 use Rattle.venue_words.specs.declared.report.LiveOrder.{LiveOrder}
 use Rattle.venue_words.specs.declared.report.View.{View}
 use Rattle.venue_words.specs.Reports.{status_of}
+use Rattle.venue_words.specs.Rules.{rule_number}
 use Rattle.exec_reports.specs.Codes.{status_code, side_code, request_code, reject_reason, refuse_reason}
 use Rattle.exec_reports.specs.Texts.{amount_text}
 
@@ -123,8 +124,8 @@ time_in kind = option_map (λ live. live.time) (standing_in kind)
 
 -- the number of the rule that was broken
 unfoldable pub rule_in : Kind → Option ℕ
-rule_in (Rejected id side quantity rule) = Some rule.0
-rule_in (Refused id orig order request rule) = Some rule.0
+rule_in (Rejected id side quantity rule) = Some (rule_number rule)
+rule_in (Refused id orig order request rule) = Some (rule_number rule)
 rule_in _ = None
 
 -- CxlRejResponseTo

@@ -44,11 +44,11 @@ pub fn request_code(request: RefusedRequest) -> u8
 pub fn reject_reason(rule: Rule) -> u8
     ensures { result ≡ reject_reason rule }
 {
-    match rule.0 {
-        1 => 1,
-        2 => 6,
-        3 | 14 => 13,
-        7 | 8 | 12 => 99,
+    match rule {
+        Rule::UnknownSymbol => 1,
+        Rule::UsedId => 6,
+        Rule::Quantity | Rule::Minimum => 13,
+        Rule::NoPrice | Rule::Price | Rule::PegOffset => 99,
         _ => 11,
     }
 }
@@ -58,9 +58,9 @@ pub fn reject_reason(rule: Rule) -> u8
 pub fn refuse_reason(rule: Rule) -> u8
     ensures { result ≡ refuse_reason rule }
 {
-    match rule.0 {
-        1 | 16 => 1,
-        2 => 6,
+    match rule {
+        Rule::UnknownSymbol | Rule::UnknownOrder => 1,
+        Rule::UsedId => 6,
         _ => 99,
     }
 }

@@ -217,7 +217,7 @@ pub fn rule_of(kind: &Kind) -> Option<u8>
     ensures { result ≡ rule_in kind.now }
 {
     match kind {
-        Kind::Rejected { rule, .. } | Kind::Refused { rule, .. } => Some(rule.0),
+        Kind::Rejected { rule, .. } | Kind::Refused { rule, .. } => Some(rule.number()),
         _ => None,
     }
 }

@@ -2,6 +2,7 @@
 ghost use Rattle.std.specs.Prelude.{◌≡◌, ◌≢◌, ◌≤◌, ◌⊎◌, None, IfSome, IsTrue, length};
 ghost use Rattle.venue_words.specs.Causes.{Rose};
 ghost use Rattle.venue_words.specs.declared.limits.TheConstants.{MAX_CONFIG_BYTES, MAX_FEEDS};
+ghost use Rattle.io_edge.specs.Faults.{IsCaused, faults};
 ghost use Rattle.program_words.specs.Words.{texts};
 ghost use Rattle.line_reader.specs.ConfigFile.{config_file};
 ghost use Rattle.feeds_core.specs.FeedPlan.{plan_in, plan_of};
@@ -82,11 +83,9 @@ fn run_plan<R: Threads + Wait + Sync, P: Pace + Sync, H: Shelf, K: Sink>(
     ensures missing { IfSome (H.told shelf.old) (λ files. named_texts files (plan_in plan.entry) ≡ None
         → ((result.status ≡ FeedsStatus.ReadFault) ⊎ (result.status ≡ FeedsStatus.NoMemory)) × (K.told out.new ≡ K.told out.old)) }
     ensures words { result.status ≢ FeedsStatus.BadWords }
-    ensures read { result.status ≡ FeedsStatus.ReadFault → Rose (H.faults shelf.old) (H.faults shelf.new) }
-    ensures write { result.status ≡ FeedsStatus.WriteFault → Rose (K.faults out.old) (K.faults out.new) }
+    ensures caused { IsCaused FeedsStatus.ReadFault FeedsStatus.WriteFault (faults (H.faults shelf.old) (K.faults out.old))
+        (faults (H.faults shelf.new) (K.faults out.new)) result.status }
     ensures sure { IsTrue (H.sure shelf.old) → HasNamed (H.told shelf.old) (plan_in plan.entry) → result.status ≢ FeedsStatus.ReadFault }
-    ensures read_later { H.faults shelf.old ≤ H.faults shelf.new }
-    ensures write_later { K.faults out.old ≤ K.faults out.new }
 {
     match read_files(alloc, plan, shelf) {
         Ok(files) => run_files(rt, alloc, files, pace, out),
@@ -104,12 +103,10 @@ pub fn answer<R: Threads + Wait + Sync, P: Pace + Sync, H: Shelf, K: Sink>(
     out: &mut K,
 ) -> Ended
     ensures ends { Ends (H.told shelf.old) (texts words.now) (K.told out.old) (K.told out.new) result.name result.status }
-    ensures read { result.status ≡ FeedsStatus.ReadFault → Rose (H.faults shelf.old) (H.faults shelf.new) }
-    ensures write { result.status ≡ FeedsStatus.WriteFault → Rose (K.faults out.old) (K.faults out.new) }
+    ensures caused { IsCaused FeedsStatus.ReadFault FeedsStatus.WriteFault (faults (H.faults shelf.old) (K.faults out.old))
+        (faults (H.faults shelf.new) (K.faults out.new)) result.status }
     ensures sure { IsTrue (H.sure shelf.old) → HasFiles (H.told shelf.old) (plan_of (texts words.now)) →
         result.status ≢ FeedsStatus.ReadFault }
-    ensures read_later { H.faults shelf.old ≤ H.faults shelf.new }
-    ensures write_later { K.faults out.old ≤ K.faults out.new }
 {
     let read = match read_words(alloc, words) {
         Ok(read) => read,

@@ -1,6 +1,6 @@
 //! The top call.
-ghost use Rattle.std.specs.Prelude.{◌≡◌, ◌≢◌, ◌≤◌, ◌⊎◌, ℕ, List, None, IsTrue};
-ghost use Rattle.venue_words.specs.Causes.{Rose};
+ghost use Rattle.std.specs.Prelude.{◌≡◌, ◌≢◌, ℕ, List, None, IsTrue};
+ghost use Rattle.io_edge.specs.Faults.{IsCausedOrUntold, faults};
 ghost use Rattle.program_words.specs.Words.{texts};
 ghost use Rattle.feeds_core.specs.FeedPlan.{plan_of};
 ghost use Rattle.feeds_core.specs.FeedRuns.{Ends, HasFiles};
@@ -38,14 +38,11 @@ pub fn run_feeds<R: Threads + Wait + Sync, P: Pace + Sync, H: Shelf, K: Sink, E:
 
     // Faults come only where a count rose, and bad words only where they have no form.
     ensures bad_words { result ≡ FeedsStatus.BadWords → plan_of (texts words.now) ≡ None }
-    ensures read { result ≡ FeedsStatus.ReadFault → Rose (H.faults shelf.old) (H.faults shelf.new) }
-    ensures write { result ≡ FeedsStatus.WriteFault →
-        Rose (K.faults out.old) (K.faults out.new) ⊎ Rose (E.faults err.old) (E.faults err.new) }
+    ensures caused { IsCausedOrUntold FeedsStatus.ReadFault FeedsStatus.WriteFault
+        (faults (H.faults shelf.old) (K.faults out.old)) (faults (H.faults shelf.new) (K.faults out.new))
+        (E.faults err.old) (E.faults err.new) result }
     ensures sure { IsTrue (H.sure shelf.old) → HasFiles (H.told shelf.old) (plan_of (texts words.now)) →
         result ≢ FeedsStatus.ReadFault }
-    ensures read_later { H.faults shelf.old ≤ H.faults shelf.new }
-    ensures write_later { K.faults out.old ≤ K.faults out.new }
-    ensures tell_later { E.faults err.old ≤ E.faults err.new }
 {
     let ended = answer(rt, alloc, words, pace, shelf, out);
     let end = RunEnd {

@@ -4,8 +4,9 @@ ghost use Rattle.feeds_core.specs.Statuses.{IsTold, refusal_of};
 
 use crate::status::{FeedsStatus, refusal_of};
 use io_edge::Sink;
-use line_reader::{Ending, StatusText, tell};
+use line_reader::{Ending, StatusText, tell, told_text};
 use program_words::WordFault;
+use std::fmt;
 
 /// The name under which a status is told.
 pub(crate) const PROGRAM: &str = "pegvenue";
@@ -65,6 +66,17 @@ impl<'a> Ending for RunEnd<'a> {
     fn to_write_fault(mut self) -> RunEnd<'a> {
         self.status = FeedsStatus::WriteFault;
         self
+    }
+}
+
+impl<'a> fmt::Display for RunEnd<'a> {
+    ghost use Rattle.std.specs.Prelude.{Some};
+    ghost use Rattle.feeds_core.specs.Statuses.{told_of};
+
+    ghost output = { λ end. Some (told_of end.name.now end.status) };
+
+    fn fmt<W: fmt::Write>(&self, f: &mut fmt::Formatter<W>) -> fmt::Result {
+        told_text(*self).fmt(f)
     }
 }
 

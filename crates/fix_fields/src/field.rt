@@ -2,6 +2,7 @@
 ghost use Rattle.std.specs.Prelude.{◌≡◌};
 
 use std::alloc::{AllocError, AllocFailed};
+use std::fmt;
 use std::marker::Model;
 
 /// A field of a message: its tag, from 1 to 99,999, and the bytes of its value, where they stand in the frame.
@@ -33,6 +34,35 @@ pub enum FieldFault {
     /// so many bytes does not stand behind it, and `at` is the place where it should begin.
     DataShort { at: u32 },
     NoMemory,
+}
+
+impl FieldFault {
+    ghost use Rattle.fix_fields.specs.Faults.{fault_text};
+
+    /// What is wrong with the bytes, in words.
+    #[tactic(auto, unfolding(crate::specs::Faults::fault_text))]
+    pub fn text(self) -> &'static str
+        ensures { result.now ≡ fault_text self }
+    {
+        match self {
+            FieldFault::NoEquals { .. } => "a field has no =",
+            FieldFault::BadTag { .. } => "what stands before an = is no tag",
+            FieldFault::NoEnd { .. } => "the last field does not end",
+            FieldFault::DataShort { .. } => "a field of data is shorter than its length field says",
+            FieldFault::NoMemory => "out of memory",
+        }
+    }
+}
+
+impl fmt::Display for FieldFault {
+    ghost use Rattle.std.specs.Prelude.{Some};
+    ghost use Rattle.fix_fields.specs.Faults.{fault_text};
+
+    ghost output = { λ fault. Some (fault_text fault) };
+
+    fn fmt<W: fmt::Write>(&self, f: &mut fmt::Formatter<W>) -> fmt::Result {
+        f.write_str(self.text())
+    }
 }
 
 impl From<AllocError> for FieldFault {

@@ -30,6 +30,15 @@ pub trait Ending: Copy {
         ensures { result ≡ write_fault self };
 }
 
+/// What is told of a status, as its `Display` writes it.
+pub fn told_text<S: Ending>(status: S) -> StatusText
+    ensures { result ≡ S.told status }
+{
+    let mut text = StatusText::new();
+    status.push_told(&mut text);
+    text
+}
+
 /// Puts what is told of a status, once, and gives the status that this makes of it. Where nothing is told no call is made.
 pub fn tell<S: Ending, E: Sink>(program: &str, status: S, err: &mut E) -> S
     requires { length program.now ≤ 16 }

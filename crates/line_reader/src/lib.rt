@@ -9,7 +9,7 @@ pub mod status_text;
 pub mod window;
 
 pub use config_file::{ConfigFault, ConfigFile, read_config};
-pub use ending::{Ending, tell};
+pub use ending::{Ending, tell, told_text};
 pub use over::{over_fault, weigh};
 pub use reader::{LineReader, NextLine};
 pub use status_text::StatusText;

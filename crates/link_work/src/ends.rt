@@ -92,6 +92,11 @@ impl From<Failed> for LinkEnd {
 }
 
 impl fmt::Display for LinkEnd {
+    ghost use Rattle.std.specs.Prelude.{Some};
+    ghost use Rattle.link_work.specs.Ends.{end_text};
+
+    ghost output = { λ end. Some (end_text end) };
+
     fn fmt<W: fmt::Write>(&self, f: &mut fmt::Formatter<W>) -> fmt::Result {
         let text = match self {
             LinkEnd::Logout => "logged out",

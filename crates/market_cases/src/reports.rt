@@ -108,7 +108,7 @@ fn tell_kind(kind: &Kind, told: &mut Told) {
         Kind::Order { view, execution } => tell_execution(view, execution, told),
         Kind::Rejected { id, rule, .. } => {
             tell_head("rejected", id, None, told);
-            tell_field("rule", &rule.0, told);
+            tell_field("rule", &rule.number(), told);
         }
         Kind::Unknown { id, .. } => tell_head("unknown", id, None, told),
         Kind::Refused {
@@ -124,7 +124,7 @@ fn tell_kind(kind: &Kind, told: &mut Told) {
             };
             tell_head(what, id, Some(orig), told);
             tell_named(order, told);
-            tell_field("rule", &rule.0, told);
+            tell_field("rule", &rule.number(), told);
         }
     }
 }

@@ -3,6 +3,7 @@ ghost use Rattle.std.specs.Prelude.{◌≡◌, ◌≢◌, ◌<◌, ◌≤◌, �
 ghost use Rattle.std.specs.Io.KnownBytes.{Appends};
 ghost use Rattle.venue_words.specs.Causes.{Rose};
 ghost use Rattle.venue_words.specs.Conditions.{IsConfig};
+ghost use Rattle.io_edge.specs.Faults.{IsCaused, faults};
 ghost use Rattle.market_data.specs.Feeding.{StandsFor, Adds};
 ghost use Rattle.market_data.specs.Outcomes.{IsRunning, Ran, StopsIn, IsStop};
 
@@ -60,10 +61,8 @@ fn feed_pieces<H: Shelf, K: Sink>(
     ensures ran { IfSome (H.left shelf.old) (λ bytes.
         Ran config.now source bytes (K.told out.old) (K.told out.new) (H.left shelf.new) result) }
     ensures running { IsRunning result }
-    ensures read_later { H.faults shelf.old ≤ H.faults shelf.new }
-    ensures write_later { K.faults out.old ≤ K.faults out.new }
-    ensures read { result ≡ MarketStatus.ReadFault → Rose (H.faults shelf.old) (H.faults shelf.new) }
-    ensures write { result ≡ MarketStatus.WriteFault → Rose (K.faults out.old) (K.faults out.new) }
+    ensures caused { IsCaused MarketStatus.ReadFault MarketStatus.WriteFault (faults (H.faults shelf.old) (K.faults out.old))
+        (faults (H.faults shelf.new) (K.faults out.new)) result }
     ensures sure { IsTrue (H.sure shelf.old) → result ≢ MarketStatus.ReadFault }
 {
     let mut session = MarketSession::new(alloc, source);
@@ -107,10 +106,8 @@ pub fn feed_input<H: Shelf, K: Sink>(
     ensures ran { IfSome (H.left shelf.old) (λ bytes.
         Ran config.now source bytes (K.told out.old) (K.told out.new) (H.left shelf.new) result) }
     ensures running { IsRunning result }
-    ensures read_later { H.faults shelf.old ≤ H.faults shelf.new }
-    ensures write_later { K.faults out.old ≤ K.faults out.new }
-    ensures read { result ≡ MarketStatus.ReadFault → Rose (H.faults shelf.old) (H.faults shelf.new) }
-    ensures write { result ≡ MarketStatus.WriteFault → Rose (K.faults out.old) (K.faults out.new) }
+    ensures caused { IsCaused MarketStatus.ReadFault MarketStatus.WriteFault (faults (H.faults shelf.old) (K.faults out.old))
+        (faults (H.faults shelf.new) (K.faults out.new)) result }
     ensures sure { IsTrue (H.sure shelf.old) → result ≢ MarketStatus.ReadFault }
 {
     match buffer_of(alloc, READ_BYTES) {

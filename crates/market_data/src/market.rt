@@ -1,6 +1,6 @@
 //! The top call.
-ghost use Rattle.std.specs.Prelude.{◌≡◌, ◌≢◌, ◌≤◌, ◌⊎◌, ℕ, List, None, Some, IfSome, IsTrue};
-ghost use Rattle.venue_words.specs.Causes.{Rose};
+ghost use Rattle.std.specs.Prelude.{◌≡◌, ◌≢◌, ℕ, List, None, Some, IfSome, IsTrue};
+ghost use Rattle.io_edge.specs.Faults.{IsCaused, IsCausedOrUntold, faults};
 ghost use Rattle.io_edge.specs.Files.{HasFile};
 ghost use Rattle.line_reader.specs.Endings.{Told};
 ghost use Rattle.program_words.specs.Words.{texts};
@@ -40,10 +40,8 @@ fn run_plan<H: Shelf, K: Sink>(
 ) -> MarketStatus
     ensures runs { IfSome (H.told shelf.old) (λ files. Runs files (plan_in plan.entry) (K.told out.old) (K.told out.new) (H.left shelf.new) result) }
     ensures words { result ≢ MarketStatus.BadWords }
-    ensures read_later { H.faults shelf.old ≤ H.faults shelf.new }
-    ensures write_later { K.faults out.old ≤ K.faults out.new }
-    ensures read { result ≡ MarketStatus.ReadFault → Rose (H.faults shelf.old) (H.faults shelf.new) }
-    ensures write { result ≡ MarketStatus.WriteFault → Rose (K.faults out.old) (K.faults out.new) }
+    ensures caused { IsCaused MarketStatus.ReadFault MarketStatus.WriteFault (faults (H.faults shelf.old) (K.faults out.old))
+        (faults (H.faults shelf.new) (K.faults out.new)) result }
     ensures sure { IsTrue (H.sure shelf.old) → HasFile (H.told shelf.old) plan.entry.config.now →
         HasFile (H.told shelf.old) plan.entry.input.now → result ≢ MarketStatus.ReadFault }
 {
@@ -68,10 +66,8 @@ fn answer<H: Shelf, K: Sink>(
     out: &mut K,
 ) -> MarketStatus
     ensures ends { Ends (H.told shelf.old) (texts words.now) (K.told out.old) (K.told out.new) (H.left shelf.new) result }
-    ensures read_later { H.faults shelf.old ≤ H.faults shelf.new }
-    ensures write_later { K.faults out.old ≤ K.faults out.new }
-    ensures read { result ≡ MarketStatus.ReadFault → Rose (H.faults shelf.old) (H.faults shelf.new) }
-    ensures write { result ≡ MarketStatus.WriteFault → Rose (K.faults out.old) (K.faults out.new) }
+    ensures caused { IsCaused MarketStatus.ReadFault MarketStatus.WriteFault (faults (H.faults shelf.old) (K.faults out.old))
+        (faults (H.faults shelf.new) (K.faults out.new)) result }
     ensures sure { IsTrue (H.sure shelf.old) → (plan : Named) → plan_of (texts words.now) ≡ Some plan →
         HasFile (H.told shelf.old) plan.config → HasFile (H.told shelf.old) plan.input → result ≢ MarketStatus.ReadFault }
 {
@@ -104,14 +100,11 @@ pub fn market_feed<H: Shelf, K: Sink, E: Sink>(
 
     // Faults come only where a count rose, and bad words only where they have no form.
     ensures bad_words { result ≡ MarketStatus.BadWords → plan_of (texts words.now) ≡ None }
-    ensures read { result ≡ MarketStatus.ReadFault → Rose (H.faults shelf.old) (H.faults shelf.new) }
-    ensures write { result ≡ MarketStatus.WriteFault →
-        Rose (K.faults out.old) (K.faults out.new) ⊎ Rose (E.faults err.old) (E.faults err.new) }
+    ensures caused { IsCausedOrUntold MarketStatus.ReadFault MarketStatus.WriteFault
+        (faults (H.faults shelf.old) (K.faults out.old)) (faults (H.faults shelf.new) (K.faults out.new))
+        (E.faults err.old) (E.faults err.new) result }
     ensures sure { IsTrue (H.sure shelf.old) → (plan : Named) → plan_of (texts words.now) ≡ Some plan →
         HasFile (H.told shelf.old) plan.config → HasFile (H.told shelf.old) plan.input → result ≢ MarketStatus.ReadFault }
-    ensures read_later { H.faults shelf.old ≤ H.faults shelf.new }
-    ensures write_later { K.faults out.old ≤ K.faults out.new }
-    ensures tell_later { E.faults err.old ≤ E.faults err.new }
 {
     let status = answer(alloc, words, shelf, out);
     tell(PROGRAM, status, err)

@@ -3,7 +3,7 @@ ghost use Rattle.market_data.specs.Statuses.{told_of, yields};
 ghost use Rattle.market_data.specs.declared.status.MarketStatus.TheVariants.{WriteFault};
 
 use crate::status::{MarketStatus, cause_name};
-use line_reader::{Ending, StatusText};
+use line_reader::{Ending, StatusText, told_text};
 use std::fmt;
 
 impl Ending for MarketStatus {
@@ -60,8 +60,6 @@ impl fmt::Display for MarketStatus {
     ghost output = { λ status. Some (told_of status) };
 
     fn fmt<W: fmt::Write>(&self, f: &mut fmt::Formatter<W>) -> fmt::Result {
-        let mut text = StatusText::new();
-        self.push_told(&mut text);
-        text.fmt(f)
+        told_text(*self).fmt(f)
     }
 }

@@ -4,6 +4,7 @@ use Rattle.std.specs.Prelude.{◌==◌, pos}
 use Rattle.std.proofs.lemmas.Bool.Decides.{nat_tests}
 use Rattle.venue_words.specs.declared.command.Command.TheVariants.{Replace}
 use Rattle.venue_words.specs.declared.command.Terms.{Terms}
+use Rattle.venue_words.specs.declared.rule.Rule.{Rule}
 use Rattle.venue_words.specs.declared.price.Side.{Side}
 use Rattle.venue_words.specs.declared.price.Side.TheVariants.{Buy, Sell}
 use Rattle.venue_words.specs.declared.row.Key.{Key}
@@ -14,7 +15,7 @@ use Rattle.eager_meaning.specs.Orders.{known_of}
 use Rattle.eager_meaning.specs.Terms.{side_of, is_pegged, key_of, peg_reference, offset_of, rounding_of}
 use Rattle.eager_meaning.specs.Verdict.{Test, first_broken, verdict, side_code}
 
-third_holds : (a b c : Bool) (k m n : ℕ) (rest : List Test) → first_broken ((a, k) ∷ (b, m) ∷ (c, n) ∷ rest) ≡ None → c ≡ false
+third_holds : (a b c : Bool) (k m n : Rule) (rest : List Test) → first_broken ((a, k) ∷ (b, m) ∷ (c, n) ∷ rest) ≡ None → c ≡ false
 unfolding first_broken
 third_holds true b c k m n rest h = cc
 third_holds false true c k m n rest h = cc

@@ -8,7 +8,7 @@ use Rattle.std.proofs.lemmas.List.{append-nil, map-append}
 use Rattle.venue_words.specs.declared.command.Command.{Command}
 use Rattle.venue_words.specs.declared.command.Command.TheVariants.{Quote, New, Cancel, Replace, Status as Request}
 use Rattle.venue_words.specs.declared.command.Event.{Event}
-use Rattle.venue_words.specs.declared.command.Rule.{Rule}
+use Rattle.venue_words.specs.declared.rule.Rule.{Rule}
 use Rattle.venue_words.specs.declared.command.Terms.{Terms}
 use Rattle.venue_words.specs.declared.price.Best.{Best}
 use Rattle.venue_words.specs.declared.price.Side.{Side}
@@ -90,7 +90,7 @@ next_name member id k used named h a =
 
 -- ---- events
 
-first_holds : (a : Bool) (n : ℕ) (rest : List Test) → first_broken ((a, n) ∷ rest) ≡ None → a ≡ false
+first_holds : (a : Bool) (n : Rule) (rest : List Test) → first_broken ((a, n) ∷ rest) ≡ None → a ≡ false
 unfolding first_broken
 first_holds true n rest h = cc
 first_holds false n rest h = refl

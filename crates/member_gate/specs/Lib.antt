@@ -4,6 +4,7 @@ pub mod Answering
 pub mod Desks
 pub mod Laws
 pub mod QuietLaws
+pub mod Refusals
 pub mod Reporting
 pub mod Submitting
 pub mod Working

@@ -1,5 +1,6 @@
 //! Why a piece was not worked to its end.
 use std::alloc::{AllocError, AllocFailed};
+use std::fmt;
 use venue_words::NoMemory;
 
 /// Why a piece was not worked to its end. The connection has then ended, and the frames that were to be sent are lost,
@@ -41,5 +42,21 @@ impl<T: Drop> From<AllocFailed<T>> for DeskRefusal {
 
     fn from(_error: AllocFailed<T>) -> DeskRefusal {
         DeskRefusal::NoMemory
+    }
+}
+
+impl fmt::Display for DeskRefusal {
+    ghost use Rattle.std.specs.Prelude.{Some};
+    ghost use Rattle.member_gate.specs.Refusals.{refusal_text};
+
+    ghost output = { λ refusal. Some (refusal_text refusal) };
+
+    fn fmt<W: fmt::Write>(&self, f: &mut fmt::Formatter<W>) -> fmt::Result {
+        match self {
+            DeskRefusal::Full { symbol, found } => {
+                write!(f, "symbol {symbol} is full at {found} events")
+            }
+            DeskRefusal::NoMemory => f.write_str("out of memory"),
+        }
     }
 }

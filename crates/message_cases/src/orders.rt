@@ -94,7 +94,7 @@ fn tell_rule(input: &[u8], told: &mut Told) -> Result<(), NoMemory> {
         return Ok(());
     };
     match verdict(&command, &known) {
-        Some(rule) => told.value(&rule.0),
+        Some(rule) => told.value(&rule.number()),
         None => told.word("none"),
     }
     Ok(())

@@ -4,8 +4,8 @@ use case_text::{Told, Words};
 use fix_fields::{amount, number};
 use std::alloc::AllocError;
 use venue_words::{
-    Execution, Kind, LiveOrder, NamedOrder, NoMemory, OrderStatus, RefusedRequest, Report, Rule,
-    Side, View,
+    Execution, Kind, LiveOrder, NamedOrder, NoMemory, OrderStatus, RULES, RefusedRequest, Report,
+    Rule, Side, View,
 };
 
 /// 2024-01-02 14:30:00 UTC, the moment of all events.
@@ -59,8 +59,13 @@ fn execution_of(words: &Words<'_>) -> Result<Execution, AllocError> {
     })
 }
 
+/// The rule of a number from 1 to 18, and else the first.
 fn rule_of(words: &Words<'_>) -> Rule {
-    Rule(words.number(b"rule").unwrap_or(0).min(255) as u8)
+    let number = words.number(b"rule").unwrap_or(1).max(1);
+    RULES
+        .get(number as usize - 1)
+        .copied()
+        .unwrap_or(Rule::UnknownSymbol)
 }
 
 /// A Cancel or Replace that was refused.

@@ -2,7 +2,7 @@
 use Rattle.std.specs.Prelude.{◌≡◌, ◌<◌, ℕ, ◌==◌, not, if◌then◌else◌, List, length, Option, Some, None, Result, Ok, Err, bytes_eq, true, ℤ}
 use Rattle.std.specs.List.{position}
 use Rattle.fix_fields.specs.declared.field.Field.{Field}
-use Rattle.venue_words.specs.declared.command.Rule.{Rule}
+use Rattle.venue_words.specs.declared.rule.Rule.TheVariants.{UnknownSymbol}
 use Rattle.venue_words.specs.declared.command.Command.{Command}
 use Rattle.venue_words.specs.declared.command.Command.TheVariants.{New, Cancel, Replace, Status}
 use Rattle.venue_words.specs.declared.config.Config.{Config}
@@ -37,19 +37,15 @@ command_of kind member fields =
 
 -- ---- orders of a symbol that is not configured
 
--- the rule that the symbol is configured
-abbrev pub unknown_symbol : Rule
-unknown_symbol = record { 0 = 1 }
-
 -- the refusal of a cancel or of a replace: it names no order
 abbrev pub stray_refusal : List Field → List ℕ → RefusedRequest → Kind
-stray_refusal fields id request = Refused id (text_in ORIG_CL_ORD_ID fields) None request unknown_symbol
+stray_refusal fields id request = Refused id (text_in ORIG_CL_ORD_ID fields) None request UnknownSymbol
 
 -- what answers an order
 unfoldable pub stray_kind : ℕ → List Field → Kind
 stray_kind kind fields =
     if kind == NEW_ORDER
-    then Rejected (text_in CL_ORD_ID fields) (code_or_zero SIDE fields) (amount_or_zero ORDER_QTY fields) unknown_symbol
+    then Rejected (text_in CL_ORD_ID fields) (code_or_zero SIDE fields) (amount_or_zero ORDER_QTY fields) UnknownSymbol
     else (if kind == CANCEL_REQUEST then stray_refusal fields (text_in CL_ORD_ID fields) CancelRequest
     else (if kind == REPLACE_REQUEST then stray_refusal fields (text_in CL_ORD_ID fields) ReplaceRequest
     else Unknown (text_in CL_ORD_ID fields) (code_or_zero SIDE fields)))

@@ -87,7 +87,7 @@ fn refused(
         orig: copy_of(alloc, ORIG_CL_ORD_ID, fields)?,
         order: None,
         request,
-        rule: Rule(1),
+        rule: Rule::UnknownSymbol,
     })
 }
 
@@ -102,7 +102,7 @@ fn stray_kind(alloc: Global, kind: u8, fields: &[Field<'_>]) -> Result<Kind, NoM
             id,
             side: code_or_zero(SIDE, fields),
             quantity: amount_or_zero(ORDER_QTY, fields),
-            rule: Rule(1),
+            rule: Rule::UnknownSymbol,
         }),
         CANCEL_REQUEST => refused(alloc, fields, id, RefusedRequest::Cancel),
         REPLACE_REQUEST => refused(alloc, fields, id, RefusedRequest::Replace),

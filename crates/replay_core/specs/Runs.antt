@@ -1,6 +1,6 @@
 -- What a run comes to, by its words and the files of its shelf.
-use Rattle.std.specs.Prelude.{◌≡◌, ◌≢◌, ◌≤◌, ◌⊎◌, ℕ, List, [], Option, Some, None, IfSome, IsTrue}
-use Rattle.venue_words.specs.Causes.{Rose}
+use Rattle.std.specs.Prelude.{◌≡◌, ◌≢◌, ◌⊎◌, ℕ, List, [], Option, Some, None, IfSome, IsTrue}
+use Rattle.io_edge.specs.Faults.{IsCausedOrUntold, faults}
 use Rattle.io_edge.specs.Files.{Files, HasFile}
 use Rattle.replay_core.specs.Causes.{script_named, script_told, LacksScript}
 use Rattle.replay_core.specs.Loading.{Loaded}
@@ -22,13 +22,6 @@ pub record Ends (told : Option Files) (words : List (List ℕ)) (left : Option (
   pub other_words : plan_of words ≡ None → ((status ≡ BadWords) ⊎ (status ≡ NoMemory)) × (new ≡ old)
   pub missing : LacksScript told words → ((status ≡ ReadFault) ⊎ (status ≡ NoMemory)) × (new ≡ old)
 
--- by the counts of faults of a shelf and of a sink: they never fall, and a fault is answered only where one of them rose
-pub record IsCaused (read_before read_now write_before write_now : ℕ) (status : Status) : Type 0 where
-  pub read_later : read_before ≤ read_now
-  pub write_later : write_before ≤ write_now
-  pub read : status ≡ ReadFault → Rose read_before read_now
-  pub write : status ≡ WriteFault → Rose write_before write_now
-
 -- a whole run with these words, from `old` to `new`
 pub record IsRun {K E : Type 0} (words : List (List ℕ)) (old new : RunSeen K E) (status : Status) : Type 0 where
   -- How the run ended, and the status once its text was put: a failed put makes a write fault of a refused line and of bad
@@ -41,9 +34,5 @@ pub record IsRun {K E : Type 0} (words : List (List ℕ)) (old new : RunSeen K E
   pub written : old.out.waiting ≡ [] → status ≢ WriteFault → new.out.waiting ≡ []
   -- Faults come only where a count rose, and bad words only where they have no form.
   pub bad_words : status ≡ BadWords → plan_of words ≡ None
-  pub read : status ≡ ReadFault → Rose old.shelf.faults new.shelf.faults
-  pub write : status ≡ WriteFault → Rose old.out.faults new.out.faults ⊎ Rose old.err.faults new.err.faults
+  pub caused : IsCausedOrUntold ReadFault WriteFault (faults old.shelf.faults old.out.faults) (faults new.shelf.faults new.out.faults) old.err.faults new.err.faults status
   pub sure : IsTrue old.shelf.sure → (name : List ℕ) → script_named words ≡ Some name → HasFile old.shelf.told name → status ≢ ReadFault
-  pub read_later : old.shelf.faults ≤ new.shelf.faults
-  pub write_later : old.out.faults ≤ new.out.faults
-  pub tell_later : old.err.faults ≤ new.err.faults

@@ -1,10 +1,11 @@
 //! Runs over state that the caller keeps.
 ghost use Rattle.std.specs.Prelude.{◌≡◌, ◌≢◌, ◌⊎◌, ℕ, List, [], Some, IfSome, IsNone, IsTrue};
+ghost use Rattle.io_edge.specs.Faults.{IsCaused, faults};
 ghost use Rattle.io_edge.specs.Files.{HasFile, file_named};
 ghost use Rattle.program_words.specs.Words.{texts};
 ghost use Rattle.replay_core.specs.Causes.{script_named};
 ghost use Rattle.replay_core.specs.Outside.{run_seen, shelf_seen, sink_seen};
-ghost use Rattle.replay_core.specs.Runs.{Ends, IsCaused, IsRun};
+ghost use Rattle.replay_core.specs.Runs.{Ends, IsRun};
 ghost use Rattle.replay_core.specs.Telling.{Ran, seen};
 
 use crate::flushing::flush_behind;
@@ -39,7 +40,8 @@ fn play_named<F: PlainFloor, H: Shelf, K: Sink, L: Ledger>(
         ((result ≡ Status.ReadFault) ⊎ (result ≡ Status.NoMemory))
         × (seen (K.told out.new) steps.new ≡ seen (K.told out.old) steps.old)) }
     ensures written { K.waiting out.old ≡ [] → result ≢ Status.WriteFault → K.waiting out.new ≡ [] }
-    ensures caused { IsCaused (H.faults shelf.old) (H.faults shelf.new) (K.faults out.old) (K.faults out.new) result }
+    ensures caused { IsCaused Status.ReadFault Status.WriteFault (faults (H.faults shelf.old) (K.faults out.old))
+        (faults (H.faults shelf.new) (K.faults out.new)) result }
     ensures sure { IsTrue (H.sure shelf.old) → HasFile (H.told shelf.old) name.now → result ≢ Status.ReadFault }
     ensures words { result ≢ Status.BadWords }
 {
@@ -68,7 +70,8 @@ fn answer<F: PlainFloor, H: Shelf, K: Sink, L: Ledger>(
     ensures ends { Ends (H.told shelf.old) (texts words.now) (H.left shelf.new)
         (seen (K.told out.old) steps.old) (seen (K.told out.new) steps.new) result }
     ensures written { K.waiting out.old ≡ [] → result ≢ Status.WriteFault → K.waiting out.new ≡ [] }
-    ensures caused { IsCaused (H.faults shelf.old) (H.faults shelf.new) (K.faults out.old) (K.faults out.new) result }
+    ensures caused { IsCaused Status.ReadFault Status.WriteFault (faults (H.faults shelf.old) (K.faults out.old))
+        (faults (H.faults shelf.new) (K.faults out.new)) result }
     ensures sure { IsTrue (H.sure shelf.old) → (name : List ℕ) → script_named (texts words.now) ≡ Some name →
         HasFile (H.told shelf.old) name → result ≢ Status.ReadFault }
 {

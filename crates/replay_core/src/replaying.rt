@@ -1,10 +1,10 @@
 //! A script read line by line to its end.
 ghost use Rattle.std.specs.Prelude.{◌≡◌, ◌≢◌, ◌≤◌, ◌+◌, length, IfSome, IsTrue};
 ghost use Rattle.venue_words.specs.declared.limits.TheConstants.{MAX_LINE_BYTES, MAX_SCRIPT_BYTES};
+ghost use Rattle.io_edge.specs.Faults.{IsCaused, faults};
 ghost use Rattle.line_reader.specs.Reading.{before_lines};
 ghost use Rattle.replay_core.specs.Play.{Place};
 ghost use Rattle.replay_core.specs.Reading.{IsAtPlace, fault_in};
-ghost use Rattle.replay_core.specs.Runs.{IsCaused};
 ghost use Rattle.replay_core.specs.Telling.{Ran, ending, seen};
 
 use crate::lines::{ScriptLine, play_line};
@@ -51,7 +51,8 @@ pub fn play_file<F: PlainFloor, H: Shelf, K: Sink, L: Ledger>(
     requires start { reader.old ≡ before_lines 0 MAX_SCRIPT_BYTES }
     ensures ran { IfSome (H.left shelf.old) (λ bytes.
         Ran bytes (seen (K.told out.old) steps.old) (seen (K.told out.new) steps.new) (H.left shelf.new) result) }
-    ensures caused { IsCaused (H.faults shelf.old) (H.faults shelf.new) (K.faults out.old) (K.faults out.new) result }
+    ensures caused { IsCaused Status.ReadFault Status.WriteFault (faults (H.faults shelf.old) (K.faults out.old))
+        (faults (H.faults shelf.new) (K.faults out.new)) result }
     ensures sure { IsTrue (H.sure shelf.old) → result ≢ Status.ReadFault }
     ensures words { result ≢ Status.BadWords }
 {

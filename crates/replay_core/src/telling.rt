@@ -5,7 +5,7 @@ ghost use Rattle.replay_core.specs.declared.status.Status.TheVariants.{WriteFaul
 
 use crate::status::Status;
 use io_edge::Sink;
-use line_reader::{Ending, StatusText, tell};
+use line_reader::{Ending, StatusText, tell, told_text};
 use std::fmt;
 
 /// The name under which a status is told.
@@ -58,9 +58,7 @@ impl fmt::Display for Status {
     ghost output = { λ status. Some (told_of status) };
 
     fn fmt<W: fmt::Write>(&self, f: &mut fmt::Formatter<W>) -> fmt::Result {
-        let mut text = StatusText::new();
-        self.push_told(&mut text);
-        text.fmt(f)
+        told_text(*self).fmt(f)
     }
 }
 

@@ -1,4 +1,4 @@
-//! Messages, ends, faults and rules in words.
+//! Messages, ends and faults in words.
 use fix_fields::FieldFault;
 use session_core::EndCause;
 use session_core::message_types::{
@@ -51,30 +51,5 @@ pub fn fault_in_words(fault: FieldFault) -> &'static str {
         FieldFault::NoEnd { .. } => "the last field does not end",
         FieldFault::DataShort { .. } => "a field of data is shorter than its length field says",
         FieldFault::NoMemory => "memory is wanted",
-    }
-}
-
-/// A rule as the market's rules number them.
-pub fn rule_in_words(rule: u32) -> &'static str {
-    match rule {
-        1 => "the symbol is not configured",
-        2 => "the member used up this ClOrdID (11) in this symbol",
-        3 => "OrderQty (38) is no whole number from 1 to 999999999",
-        4 => "Side (54) is not 1 or 2",
-        5 => "OrdType (40) is not 2 or P",
-        6 => "TimeInForce (59) is not 0 or 3",
-        7 => "a limit order needs Price (44)",
-        8 => "Price (44) is no whole number of ticks from 0.01 to 19999.99",
-        9 => "a pegged order needs PegPriceType (1094) of 2, 4 or 5",
-        10 => "PegMoveType (835) is not 0",
-        11 => "PegOffsetType (836) is not 0 or 2",
-        12 => "PegOffsetValue (211) is no whole number of units or ticks, or is beyond 200 units",
-        13 => "PegRoundDirection (838) is not 1 or 2",
-        14 => "MinQty (110) is no whole number from 0 to OrderQty (38)",
-        15 => "MinQtyMethod (1822) is not 1 or 2",
-        16 => "no live order of the member in this symbol has OrigClOrdID (41) as its ClOrdID",
-        17 => "Side (54) is not the order's",
-        18 => "OrderQty (38) is not above what the order has traded",
-        _ => "a rule",
     }
 }

@@ -2,7 +2,8 @@
 ghost use Rattle.serve_core.specs.Statuses.{told_of};
 
 use crate::status::ServeStatus;
-use line_reader::{Ending, StatusText};
+use line_reader::{Ending, StatusText, told_text};
+use std::fmt;
 
 impl<'a> Ending for ServeStatus<'a> {
     ghost use Rattle.serve_core.specs.Statuses.{told_of};
@@ -47,5 +48,15 @@ impl<'a> Ending for ServeStatus<'a> {
 
     fn to_write_fault(self) -> ServeStatus<'a> {
         self
+    }
+}
+
+impl<'a> fmt::Display for ServeStatus<'a> {
+    ghost use Rattle.std.specs.Prelude.{Some};
+
+    ghost output = { λ status. Some (told_of status) };
+
+    fn fmt<W: fmt::Write>(&self, f: &mut fmt::Formatter<W>) -> fmt::Result {
+        told_text(*self).fmt(f)
     }
 }

@@ -6,6 +6,7 @@ pub mod Bodies
 pub mod Cases
 pub mod Checks
 pub mod Content
+pub mod EndCauses
 pub mod Frames
 pub mod Laws
 pub mod Logon

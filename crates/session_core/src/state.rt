@@ -2,6 +2,8 @@
 ghost use Rattle.std.specs.Prelude.{◌≡◌};
 ghost use Rattle.session_core.specs.State.{ended, heard, is_up, is_over, cause_of};
 
+use std::fmt;
+
 /// Why a connection ended. It stays ended until a new one begins.
 #[derive(Clone, Copy, Debug, PartialEq, Eq)]
 pub enum EndCause {
@@ -21,6 +23,46 @@ pub enum EndCause {
     Silent,
     /// A frame of more than 8,192 bytes; `TOO LONG`.
     TooLong,
+}
+
+impl EndCause {
+    ghost use Rattle.session_core.specs.EndCauses.{end_text};
+
+    /// Why a connection ended, in words.
+    #[tactic(auto, unfolding(crate::specs::EndCauses::end_text))]
+    pub fn text(self) -> &'static str
+        ensures { result.now ≡ end_text self }
+    {
+        match self {
+            EndCause::Logout => "the member logs out",
+            EndCause::TooLow => {
+                "MsgSeqNum (34) is lower than the one to come, and PossDupFlag (43) is not Y"
+            }
+            EndCause::NotLogon => {
+                "the first message of a connection is no Logon, and nothing is sent before one"
+            }
+            EndCause::BadLogon => {
+                "the Logon fails a check, or asks for what this venue does not do"
+            }
+            EndCause::NoNumber => "MsgSeqNum (34) is missing, or is no number from 1 to 999999999",
+            EndCause::WrongName => {
+                "SenderCompID (49) is not the member, or TargetCompID (56) is not PEGV"
+            }
+            EndCause::Silent => "nothing came for three heartbeat intervals",
+            EndCause::TooLong => "a message declares more than 8192 bytes",
+        }
+    }
+}
+
+impl fmt::Display for EndCause {
+    ghost use Rattle.std.specs.Prelude.{Some};
+    ghost use Rattle.session_core.specs.EndCauses.{end_text};
+
+    ghost output = { λ cause. Some (end_text cause) };
+
+    fn fmt<W: fmt::Write>(&self, f: &mut fmt::Formatter<W>) -> fmt::Result {
+        f.write_str(self.text())
+    }
 }
 
 /// How far a connection has come.

@@ -16,6 +16,8 @@ pub mod Peg
 pub mod Price
 pub mod Priority
 pub mod PriorityLaws
+pub mod Refusals
 pub mod Reports
 pub mod Retime
 pub mod Rows
+pub mod Rules

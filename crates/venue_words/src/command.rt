@@ -151,7 +151,3 @@ pub struct Event {
     pub moment: i64,
     pub command: Command,
 }
-
-/// The number of a rule that an order broke, from 1 to 18.
-#[derive(Clone, Copy, Debug, PartialEq, Eq)]
-pub struct Rule(pub u8);

@@ -13,10 +13,11 @@ pub mod price;
 pub mod refusal;
 pub mod report;
 pub mod row;
+pub mod rule;
 pub mod steps;
 
 pub use bytes::Bytes;
-pub use command::{BoxedTerms, Command, Event, Rule, Terms};
+pub use command::{BoxedTerms, Command, Event, Terms};
 pub use config::Config;
 pub use floor::Floor;
 pub use held::Held;
@@ -27,4 +28,5 @@ pub use report::{
     Execution, Kind, LiveOrder, Look, NamedOrder, OrderStatus, RefusedRequest, Report, View,
 };
 pub use row::{Key, Method, Priced, Reference, Rounding, Row, same_key};
+pub use rule::{RULES, Rule};
 pub use steps::Steps;

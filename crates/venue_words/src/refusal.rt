@@ -1,5 +1,6 @@
 //! Why a call did nothing.
 use std::alloc::{AllocError, AllocFailed};
+use std::fmt;
 
 /// Memory was wanted and not to be had.
 #[derive(Clone, Copy, Debug, PartialEq, Eq, Drop)]
@@ -14,6 +15,16 @@ impl From<AllocError> for NoMemory {
 impl<T: Drop> From<AllocFailed<T>> for NoMemory {
     fn from(_error: AllocFailed<T>) -> NoMemory {
         NoMemory
+    }
+}
+
+impl fmt::Display for NoMemory {
+    ghost use Rattle.std.specs.Prelude.{Some, codes};
+
+    ghost output = { λ _. Some (codes "out of memory") };
+
+    fn fmt<W: fmt::Write>(&self, f: &mut fmt::Formatter<W>) -> fmt::Result {
+        f.write_str("out of memory")
     }
 }
 
@@ -33,5 +44,19 @@ impl From<NoMemory> for FloorRefusal {
 
     fn from(_error: NoMemory) -> FloorRefusal {
         FloorRefusal::NoMemory
+    }
+}
+
+impl fmt::Display for FloorRefusal {
+    ghost use Rattle.std.specs.Prelude.{Some};
+    ghost use Rattle.venue_words.specs.Refusals.{refusal_text};
+
+    ghost output = { λ refusal. Some (refusal_text refusal) };
+
+    fn fmt<W: fmt::Write>(&self, f: &mut fmt::Formatter<W>) -> fmt::Result {
+        match self {
+            FloorRefusal::Full { found } => write!(f, "full at {found} events"),
+            FloorRefusal::NoMemory => f.write_str("out of memory"),
+        }
     }
 }

@@ -3,9 +3,9 @@ ghost use Rattle.std.specs.Prelude.{◌≡◌};
 ghost use Rattle.venue_words.specs.Reports.{live_status, status_of};
 
 use crate::bytes::Bytes;
-use crate::command::Rule;
 use crate::items::Items;
 use crate::price::Side;
+use crate::rule::Rule;
 
 /// OrdStatus(39).
 #[derive(Clone, Copy, Debug, PartialEq, Eq)]

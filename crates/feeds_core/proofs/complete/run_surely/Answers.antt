@@ -13,5 +13,5 @@ returns g c = record {
       c.run_feeds.ensures.run
       (λ t e r. c.run_feeds.ensures.sure (search rules)
       (has_files (Some (files_of c.args.shelf.now.stock.files.items)) (plan_of (texts c.args.words.now)) t e) r)
-      (λ r. elim (c.run_feeds.ensures.write r) [ inl rose ↦ none_rises rose | inr rose ↦ none_rises rose ]);
+      (λ r. elim (c.run_feeds.ensures.caused.write r) [ inl rose ↦ none_rises rose | inr rose ↦ none_rises rose ]);
 }

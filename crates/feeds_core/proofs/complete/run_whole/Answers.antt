@@ -10,6 +10,6 @@ returns g c = record {
       whole_run (g.H.Shelf.told c.args.shelf.now) (texts c.args.words.now) (g.K.Sink.told c.args.out.now) (g.K.Sink.told c.run_feeds.new.out)
       (g.E.Sink.told c.args.err.now) (g.E.Sink.told c.run_feeds.new.err) c.run_feeds.result
       (g.E.Sink.faults c.args.err.now) (g.E.Sink.faults c.run_feeds.new.err) c.run_feeds.ensures.run
-      (λ t e r. no_read (c.run_feeds.ensures.read r))
-      (λ r. elim (c.run_feeds.ensures.write r) [ inl rose ↦ no_write rose | inr rose ↦ no_text rose ]);
+      (λ t e r. no_read (c.run_feeds.ensures.caused.read r))
+      (λ r. elim (c.run_feeds.ensures.caused.write r) [ inl rose ↦ no_write rose | inr rose ↦ no_text rose ]);
 }

@@ -10,4 +10,4 @@ pub returns-clause-load : goal.returns-clause-load
 returns-clause-load g c orders quotes plan =
     let run = c.replay.ensures.run in
     load_ends orders quotes None None None None 0 0 run.ended c.replay.result (run.ends.load orders quotes plan).outcome run.told
-    (λ is. ⊎_elim never never (run.write is))
+    (λ is. ⊎_elim never never (run.caused.write is))

@@ -6,4 +6,4 @@ pub returns-clause-load : goal.returns-clause-load
 returns-clause-load g c out err orders quotes plan =
     let run = c.replay.ensures.run in
     load_ends orders quotes _ _ _ _ _ _ run.ended c.replay.result (run.ends.load orders quotes plan).outcome run.told
-    (λ is. ⊎_elim out err (run.write is))
+    (λ is. ⊎_elim out err (run.caused.write is))
