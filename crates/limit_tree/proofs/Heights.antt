@@ -1,10 +1,11 @@
 -- How high a balanced tree of rows with different pairs can be.
-use Rattle.std.proofs.Common.{◌≡◌, ℕ, zero, suc, ◌+◌, ◌-◌, ◌^◌, ◌<◌, ◌≤◌, max, List, [], ◌∷◌, length, refl, subst, inl, inr, arith, lit<, zero-add}
+use Rattle.std.proofs.Common.{◌≡◌, ℕ, zero, suc, ◌+◌, ◌-◌, ◌^◌, ◌<◌, ◌≤◌, max, List, [], ◌∷◌, ◌++◌, length, Option, Box, Global, refl, subst, inl, inr, arith, lit<, zero-add, length-append}
 use Rattle.std.proofs.lemmas.Bool.{cases_order}
 use Rattle.std.specs.List.{AllByRecursion}
 use Rattle.venue_words.specs.declared.row.Row.{Row}
 use Rattle.limit_tree.specs.Order.{row_rank, IsOrdered}
-use Rattle.limit_tree.specs.Part.{series, fewest, DifferByAtMost}
+use Rattle.limit_tree.specs.Part.{Part, series, fewest, DifferByAtMost}
+use Rattle.limit_tree.specs.Link.{link_rows, link_height, IsFull}
 
 series-step : (a b n : ℕ) → series a b (suc (suc n)) ≡ series a b n + series a b (suc n)
 series-step a b zero = refl
@@ -45,6 +46,11 @@ fewest-attach l r d =
           let s : fewest (suc (suc r)) ≡ fewest r + fewest (suc r) = series-step 1 2 r in
           rw (m, e) (omega (arith, s))
     ]
+
+-- a part whose sides are balanced and full is full
+pub full_over : (height : ℕ) (left : Option (Box Part Global)) (row : Row) (right : Option (Box Part Global)) → height ≡ max (link_height left) (link_height right) + 1 → DifferByAtMost 1 (link_height left) (link_height right) → IsFull left → IsFull right → fewest height ≤ length (link_rows left ++ row ∷ link_rows right) + 1
+full_over height left row right e d l r =
+    rw e (omega (arith, fewest-attach (link_height left) (link_height right) d, l, r, length-append (link_rows left) (row ∷ link_rows right)))
 
 -- rows in order have different places
 few_from : (low : ℕ) (rows : List Row) → low ≤ 2 ^ 64 → AllByRecursion (λ row. low ≤ row_rank row) rows → IsOrdered rows → low + length rows ≤ 2 ^ 64

@@ -1,5 +1,5 @@
 -- Rows in order, and parts of them.
-use Rattle.std.proofs.Common.{◌<◌, List, [], ◌∷◌, ◌++◌, append_assoc}
+use Rattle.std.proofs.Common.{◌≡◌, ◌<◌, List, [], ◌∷◌, ◌++◌, length, refl, ap, append_assoc, length-append, arith}
 use Rattle.std.specs.List.{AllByRecursion}
 use Rattle.venue_words.specs.declared.row.Row.{Row}
 use Rattle.venue_words.specs.ListLaws.{all_parts}
@@ -30,3 +30,9 @@ ordered_left a x b y c o = ordered_front (a ++ x ∷ b) (y ∷ c) (rw append_ass
 -- what stands behind a row
 pub ordered_behind : (front : List Row) (row : Row) (back : List Row) → IsOrdered (front ++ row ∷ back) → IsOrdered back
 ordered_behind front row back o = (ordered_back front (row ∷ back) o).2
+
+-- with one row in all there is none beside it
+pub alone : (front : List Row) (row other : Row) (back : List Row) → front ++ row ∷ back ≡ row ∷ [] → front ++ other ∷ back ≡ other ∷ []
+alone [] row other [] h = refl
+alone [] row other (next ∷ back) h = absurd (let n = ap length h in omega (arith, n))
+alone (first ∷ front) row other back h = absurd (let n = ap length h in omega (arith, n, length-append front (row ∷ back)))

@@ -1,7 +1,7 @@
 -- How a node is seen, and what holds of every node.
-use Rattle.std.specs.Prelude.{◌≡◌, ◌+◌, ◌≤◌, max, ◌∷◌, ◌++◌, length}
-use Rattle.limit_tree.specs.Part.{Part, DifferByAtMost, fewest}
-use Rattle.limit_tree.specs.Link.{link_rows, link_height}
+use Rattle.std.specs.Prelude.{◌≡◌, ◌+◌, max, ◌∷◌, ◌++◌}
+use Rattle.limit_tree.specs.Part.{Part, DifferByAtMost}
+use Rattle.limit_tree.specs.Link.{link_rows, link_height, IsFull}
 use Rattle.limit_tree.specs.Order.{IsOrdered, least_entry}
 use Rattle.limit_tree.specs.declared.node.Node.TheInside.{Inside}
 
@@ -14,7 +14,8 @@ part_of node = record {
   height = node.height;
 }
 
--- the pair is the row's, the rows are in order, the least entry and the height are right, and the sides are balanced
+-- the pair is the row's, the rows are in order, the least entry and the height are right, and the sides are balanced and as full
+-- as balanced parts are
 pub record IsPart (node : Inside) : Type 0 where
   pub cap : node.cap ≡ node.row.cap
   pub entry : node.entry ≡ node.row.entry
@@ -22,4 +23,5 @@ pub record IsPart (node : Inside) : Type 0 where
   pub least : node.least ≡ least_entry (link_rows node.left ++ node.row ∷ link_rows node.right)
   pub height : node.height ≡ max (link_height node.left) (link_height node.right) + 1
   pub balanced : DifferByAtMost 1 (link_height node.left) (link_height node.right)
-  pub full : fewest node.height ≤ length (link_rows node.left ++ node.row ∷ link_rows node.right) + 1
+  pub left_full : IsFull node.left
+  pub right_full : IsFull node.right

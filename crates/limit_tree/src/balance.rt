@@ -1,5 +1,5 @@
 //! A node over two parts of different heights.
-ghost use Rattle.std.specs.Prelude.{◌≡◌, ◌+◌, ◌≤◌, ◌∷◌, ◌++◌, max};
+ghost use Rattle.std.specs.Prelude.{◌≡◌, ◌+◌, ◌≤◌, ◌∷◌, ◌++◌, max, IsSomeAnd};
 ghost use Rattle.limit_tree.specs.Link.{link_rows, link_height};
 ghost use Rattle.limit_tree.specs.Order.{IsOrdered};
 ghost use Rattle.limit_tree.specs.Part.{IsLeaf, DifferByAtMost};
@@ -81,5 +81,25 @@ pub fn balance(left: Option<Box<Node>>, node: Box<Node>, right: Option<Box<Node>
         }
     } else {
         attach(left, node, right)
+    }
+}
+
+/// Puts parts on both sides of the node behind the link.
+pub fn rejoin(
+    link: &mut Option<Box<Node>>,
+    left: Option<Box<Node>>,
+    right: Option<Box<Node>>,
+)
+    requires alone { IsSomeAnd link.old (λ node. IsLeaf node.value) }
+    requires ordered { IsOrdered (link_rows left ++ (link_rows link.old ++ link_rows right)) }
+    requires near { DifferByAtMost 2 (link_height left) (link_height right) }
+    ensures rows { link_rows link.new ≡ link_rows left ++ (link_rows link.old ++ link_rows right) }
+    ensures not_lower { max (link_height left) (link_height right) ≤ link_height link.new }
+    ensures at_most_one_higher { link_height link.new ≤ max (link_height left) (link_height right) + 1 }
+    ensures even { DifferByAtMost 1 (link_height left) (link_height right)
+        → link_height link.new ≡ max (link_height left) (link_height right) + 1 }
+{
+    if let Some(node) = link.take() {
+        *link = Some(balance(left, node, right));
     }
 }

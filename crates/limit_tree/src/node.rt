@@ -1,5 +1,5 @@
 //! A node of the tree, and how nodes are taken apart and put together.
-ghost use Rattle.std.specs.Prelude.{◌≡◌, ◌-◌, ◌+◌, ◌<◌, ◌≤◌, [], ◌∷◌, ◌++◌, length, max, true};
+ghost use Rattle.std.specs.Prelude.{◌≡◌, ◌≢◌, ◌-◌, ◌+◌, ◌<◌, ◌≤◌, [], ◌∷◌, ◌++◌, length, min, max, true};
 ghost use Rattle.limit_tree.specs.Link.{link_rows, link_height};
 ghost use Rattle.limit_tree.specs.Order.{IsOrdered, least_entry};
 ghost use Rattle.limit_tree.specs.Part.{IsLeaf, DifferByAtMost, fewest};
@@ -93,6 +93,36 @@ pub fn least_of(link: &Option<Box<Node>>) -> u32
     }
 }
 
+/// The lesser of an entry and the least entries behind two links.
+pub fn least_beside(
+    left: &Option<Box<Node>>,
+    entry: u32,
+    right: &Option<Box<Node>>,
+) -> u32
+    ensures { result ≡ min (least_entry (link_rows left.now)) (min entry (least_entry (link_rows right.now))) }
+{
+    least_of(left).min(entry.min(least_of(right)))
+}
+
+/// The least entry of a part that an entry left, where `least` was the least one before. Only where it was the one
+/// that left are the sides looked at.
+pub fn least_without(
+    least: u32,
+    gone: u32,
+    left: &Option<Box<Node>>,
+    entry: u32,
+    right: &Option<Box<Node>>,
+) -> u32
+    ensures renewed { gone ≡ least → result ≡ min (least_entry (link_rows left.now)) (min entry (least_entry (link_rows right.now))) }
+    ensures kept { gone ≢ least → result ≡ least }
+{
+    if gone == least {
+        least_beside(left, entry, right)
+    } else {
+        least
+    }
+}
+
 /// The links of a node, and the node without children.
 pub fn parts(mut node: Box<Node>) -> (Option<Box<Node>>, Box<Node>, Option<Box<Node>>)
     ensures rows { node.value.rows ≡ link_rows result.0 ++ node.value.row ∷ link_rows result.2 }
@@ -120,9 +150,8 @@ pub fn attach(left: Option<Box<Node>>, mut node: Box<Node>, right: Option<Box<No
     ensures height { result.value.height ≡ max (link_height left) (link_height right) + 1 }
 {
     let height = height_of(&left).max(height_of(&right)) + 1;
-    let least = least_of(&left).min(least_of(&right));
     let top: &mut Node = &mut node;
-    top.least = top.entry.min(least);
+    top.least = least_beside(&left, top.entry, &right);
     top.height = height;
     top.left = left;
     top.right = right;

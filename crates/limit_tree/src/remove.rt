@@ -1,35 +1,57 @@
 //! A part of the tree without one of its rows.
-ghost use Rattle.std.specs.Prelude.{◌≡◌, ◌+◌, ◌≤◌, ◌∷◌, ◌++◌, max, IfSome, option_map};
+ghost use Rattle.std.specs.Prelude.{◌≡◌, ◌+◌, ◌≤◌, ◌∷◌, ◌++◌, max, None, IfSome, MatchOption, option_map};
 ghost use Rattle.limit_tree.specs.Link.{link_rows, link_height};
 ghost use Rattle.limit_tree.specs.Order.{IsOrdered, without_row, row_at};
 ghost use Rattle.limit_tree.specs.Part.{IsLeaf, DifferByAtMost};
 
-use crate::balance::balance;
-use crate::node::{Node, parts};
+use crate::balance::{balance, rejoin};
+use crate::node::{Node, height_of, least_without};
 use crate::search::place_of;
 use std::cmp::Ordering;
+use std::mem;
 use std::sync::ledger::Ledger;
 use venue_words::Steps;
 
-/// The first row of a part and the others.
+/// Takes the first row of a part out.
 pub fn take_first<L: Ledger>(
-    node: Box<Node>,
+    link: &mut Option<Box<Node>>,
     steps: &mut Steps<L>,
-) -> (Box<Node>, Option<Box<Node>>)
-    ensures rows { node.value.rows ≡ result.0.value.row ∷ link_rows result.1 }
-    ensures alone { IsLeaf result.0.value }
-    ensures not_lower { node.value.height ≤ link_height result.1 + 1 }
-    ensures not_higher { link_height result.1 ≤ node.value.height }
+) -> Option<Box<Node>>
+    ensures rows { link_rows link.old ≡ link_rows result ++ link_rows link.new }
+    ensures first { MatchOption result (link.old ≡ None) (λ first. IsLeaf first.value) }
+    ensures not_lower { link_height link.old ≤ link_height link.new + 1 }
+    ensures not_higher { link_height link.new ≤ link_height link.old }
     ensures ticks { steps.old + 1 ≤ steps.new }
-    ensures most { steps.new ≤ steps.old + node.value.height }
+    ensures most { steps.new ≤ steps.old + link_height link.old + 1 }
 {
     steps.tick();
-    let (left, top, right) = parts(node);
-    match left {
-        None => (top, right),
-        Some(left) => {
-            let (first, left) = take_first(left, steps);
-            (first, Some(balance(left, top, right)))
+    match link {
+        None => None,
+        Some(top) => {
+            let top: &mut Node = top;
+            let height = height_of(&top.left);
+            let first = take_first(&mut top.left, steps);
+            match first {
+                None => {
+                    let right = top.right.take();
+                    top.least = top.entry;
+                    top.height = 1;
+                    mem::replace(link, right)
+                }
+                Some(first) => {
+                    if height_of(&top.left) == height {
+                        let gone = first.entry;
+                        top.least = least_without(top.least, gone, &top.left, top.entry, &top.right);
+                        return Some(first);
+                    }
+                    let left = top.left.take();
+                    let right = top.right.take();
+                    top.least = top.entry;
+                    top.height = 1;
+                    rejoin(link, left, right);
+                    Some(first)
+                }
+            }
         }
     }
 }
@@ -37,7 +59,7 @@ pub fn take_first<L: Ledger>(
 /// The rows of two parts as one part.
 pub fn join<L: Ledger>(
     left: Option<Box<Node>>,
-    right: Option<Box<Node>>,
+    mut right: Option<Box<Node>>,
     steps: &mut Steps<L>,
 ) -> Option<Box<Node>>
     requires ordered { IsOrdered (link_rows left ++ link_rows right) }
@@ -46,48 +68,63 @@ pub fn join<L: Ledger>(
     ensures not_lower { max (link_height left) (link_height right) ≤ link_height result }
     ensures not_higher { link_height result ≤ max (link_height left) (link_height right) + 1 }
     ensures kept { steps.old ≤ steps.new }
-    ensures most { steps.new ≤ steps.old + link_height right }
+    ensures most { steps.new ≤ steps.old + link_height right + 1 }
 {
-    match right {
+    match take_first(&mut right, steps) {
         None => left,
-        Some(right) => {
-            let (first, rest) = take_first(right, steps);
-            Some(balance(left, first, rest))
-        }
+        Some(first) => Some(balance(left, first, right)),
     }
 }
 
-/// The part without the row of the pair, and that row's node.
+/// Takes the row of the pair out of a part.
 pub fn cut_from<L: Ledger>(
-    link: Option<Box<Node>>,
+    link: &mut Option<Box<Node>>,
     cap: u32,
     entry: u32,
     steps: &mut Steps<L>,
-) -> (Option<Box<Node>>, Option<Box<Node>>)
-    ensures rows { link_rows result.0 ≡ without_row cap entry (link_rows link) }
-    ensures found { option_map (λ node. node.value.row) result.1 ≡ row_at cap entry (link_rows link) }
-    ensures alone { IfSome result.1 (λ node. IsLeaf node.value) }
-    ensures not_lower { link_height link ≤ link_height result.0 + 1 }
-    ensures not_higher { link_height result.0 ≤ link_height link }
+) -> Option<Box<Node>>
+    ensures rows { link_rows link.new ≡ without_row cap entry (link_rows link.old) }
+    ensures found { option_map (λ node. node.value.row) result ≡ row_at cap entry (link_rows link.old) }
+    ensures alone { IfSome result (λ node. IsLeaf node.value) }
+    ensures not_lower { link_height link.old ≤ link_height link.new + 1 }
+    ensures not_higher { link_height link.new ≤ link_height link.old }
     ensures ticks { steps.old + 1 ≤ steps.new }
-    ensures most { steps.new ≤ steps.old + link_height link + 1 }
+    ensures most { steps.new ≤ steps.old + link_height link.old + 1 }
 {
     steps.tick();
     match link {
-        None => (None, None),
+        None => None,
         Some(top) => {
-            let (left, top, right) = parts(top);
-            match place_of(cap, entry, &top) {
+            let top: &mut Node = top;
+            let (before, found, after) = match place_of(cap, entry, top) {
                 Ordering::Less => {
-                    let (left, found) = cut_from(left, cap, entry, steps);
-                    (Some(balance(left, top, right)), found)
+                    let height = height_of(&top.left);
+                    let found = cut_from(&mut top.left, cap, entry, steps);
+                    (height, found, height_of(&top.left))
                 }
-                Ordering::Equal => (join(left, right, steps), Some(top)),
+                Ordering::Equal => {
+                    let left = top.left.take();
+                    let right = top.right.take();
+                    top.least = top.entry;
+                    top.height = 1;
+                    return mem::replace(link, join(left, right, steps));
+                }
                 Ordering::Greater => {
-                    let (right, found) = cut_from(right, cap, entry, steps);
-                    (Some(balance(left, top, right)), found)
+                    let height = height_of(&top.right);
+                    let found = cut_from(&mut top.right, cap, entry, steps);
+                    (height, found, height_of(&top.right))
                 }
+            };
+            if after == before {
+                top.least = least_without(top.least, entry, &top.left, top.entry, &top.right);
+                return found;
             }
+            let left = top.left.take();
+            let right = top.right.take();
+            top.least = top.entry;
+            top.height = 1;
+            rejoin(link, left, right);
+            found
         }
     }
 }

@@ -75,10 +75,9 @@ impl LimitTree {
         ensures ticks { steps.old + 1 ≤ steps.new }
         ensures most { steps.new ≤ steps.old + 256 }
     {
-        let root = self.root.take();
-        let _height = height_of(&root);
+        let _height = height_of(&self.root);
         self.greatest = self.greatest.max(node.cap);
-        self.root = Some(put_into(root, node, steps));
+        put_into(&mut self.root, node, steps);
     }
 
     /// Takes the row of a cap and an entry out; none, and nothing changes, where it is not held.
@@ -94,10 +93,8 @@ impl LimitTree {
         ensures ticks { steps.old + 1 ≤ steps.new }
         ensures most { steps.new ≤ steps.old + 256 }
     {
-        let root = self.root.take();
-        let _height = height_of(&root);
-        let (rest, found) = cut_from(root, cap, entry, steps);
-        self.root = rest;
+        let _height = height_of(&self.root);
+        let found = cut_from(&mut self.root, cap, entry, steps);
         if cap == self.greatest {
             self.greatest = highest_in(&self.root, steps);
         }

@@ -1,0 +1,5 @@
+use Rattle.limit_tree.proofs.InOrder.{alone}
+use Rattle.limit_tree.proofs.node.fill.Goals as goal
+
+pub returns-clause-alone : goal.returns-clause-alone
+returns-clause-alone c = alone _ c.node.inside.row _ _ (rw (← c.node.view_is) at c.requires.alone)
