@@ -1,6 +1,8 @@
 -- The bodies of reports, field by field.
 use Rattle.std.specs.Prelude.{ℕ, if◌then◌else◌, List, [], ◌∷◌, ◌++◌, decimal, Option, Some, None, option_map}
 use Rattle.venue_words.specs.declared.report.Report.{Report}
+use Rattle.fix_write.specs.declared.message_type.MessageType.{MessageType}
+use Rattle.fix_write.specs.declared.message_type.MessageType.TheVariants.{CancelReject, ExecutionReport}
 use Rattle.fix_write.specs.Fields.{field}
 use Rattle.fix_write.specs.Moments.{moment_text}
 use Rattle.exec_reports.specs.declared.tags.TheConstants.{ORDER_ID, CL_ORD_ID, ORIG_CL_ORD_ID, EXEC_ID, EXEC_TYPE, ORD_STATUS, ORD_REJ_REASON, SYMBOL, SIDE, ORDER_QTY, ORD_TYPE, PRICE, LAST_QTY, LAST_PX, LEAVES_QTY, CUM_QTY, AVG_PX, TRANSACT_TIME, PEGGED_PRICE, PRIORITY_EVENT, RULE_NUMBER, CXL_REJ_RESPONSE_TO, CXL_REJ_REASON}
@@ -58,6 +60,6 @@ unfoldable pub body_of : Report → List ℕ → List ℕ → List ℕ
 body_of report symbol member =
     if is_refusal report.kind then refusal_body report symbol else execution_body report symbol member
 
--- its MsgType: `9` for a refusal, `8` for the rest
-unfoldable pub kind_code : Report → ℕ
-kind_code report = if is_refusal report.kind then 57 else 56
+-- its type: a cancel reject for a refusal, an execution report for the rest
+unfoldable pub kind_of : Report → MessageType
+kind_of report = if is_refusal report.kind then CancelReject else ExecutionReport

@@ -4,7 +4,7 @@ ghost use Rattle.fix_write.specs.Fields.{field};
 ghost use Rattle.fix_write.specs.Moments.{moment_text};
 ghost use Rattle.exec_reports.specs.Parts.{orig_in, quantity_in};
 ghost use Rattle.exec_reports.specs.Texts.{order_id, exec_id, price_text, average_text, amount_text};
-ghost use Rattle.exec_reports.specs.Bodies.{byte, field_if, execution_body, refusal_body, body_of, kind_code};
+ghost use Rattle.exec_reports.specs.Bodies.{byte, field_if, execution_body, refusal_body, body_of, kind_of};
 
 use crate::parts::{
     answer_of, cum_of, first_of, id_of, last_price_of, last_quantity_of, leaves_of, limit_of,
@@ -18,7 +18,7 @@ use crate::tags::{
 };
 use crate::texts::{push_amount, push_average, push_exec_id, push_order_id, push_price};
 use fix_write::digits::push_ended;
-use fix_write::{push_byte_field, push_field, push_moment_field, push_number_field};
+use fix_write::{MessageType, push_byte_field, push_field, push_moment_field, push_number_field};
 use std::alloc::Global;
 use venue_words::limits::SOH;
 use venue_words::{Kind, NoMemory, Report};
@@ -240,10 +240,14 @@ pub fn body(
     }
 }
 
-/// MsgType(35) of a report: `9` is a cancel reject, `8` an execution report.
-#[tactic(auto, unfolding(crate::specs::Bodies::kind_code))]
-pub fn kind(report: &Report) -> u8
-    ensures { result ≡ kind_code report.now }
+/// MsgType(35) of a report: that of a cancel reject, or of an execution report.
+#[tactic(auto, unfolding(crate::specs::Bodies::kind_of))]
+pub fn kind(report: &Report) -> MessageType
+    ensures { result ≡ kind_of report.now }
 {
-    if refuses(&report.kind) { b'9' } else { b'8' }
+    if refuses(&report.kind) {
+        MessageType::CancelReject
+    } else {
+        MessageType::ExecutionReport
+    }
 }

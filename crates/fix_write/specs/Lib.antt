@@ -2,4 +2,5 @@ pub mod Digits
 pub mod Fields
 pub mod Framing
 pub mod Lengths
+pub mod MessageTypes
 pub mod Moments

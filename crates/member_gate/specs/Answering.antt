@@ -1,5 +1,6 @@
 -- What a message that a session hands out gets: an answer that is framed at once, or a command for a symbol's book.
 use Rattle.std.specs.Prelude.{ℕ, ℤ, List, [], ◌∷◌, ◌++◌, slice_get, unwrap_or, codes, decimal, Result, Ok, Err}
+use Rattle.fix_write.specs.declared.message_type.MessageType.TheVariants.{BusinessReject}
 use Rattle.fix_write.specs.declared.tags.TheConstants.{MSG_TYPE}
 use Rattle.fix_write.specs.Fields.{field}
 use Rattle.venue_words.specs.declared.command.Command.{Command}
@@ -17,8 +18,8 @@ use Rattle.order_fields.specs.declared.order.Refusal.{Refusal}
 use Rattle.order_fields.specs.declared.order.Refusal.TheVariants.{Reject, Business, NoMemory}
 use Rattle.order_fields.specs.declared.tags.TheConstants.{SYMBOL}
 use Rattle.order_fields.specs.Order.{order}
-use Rattle.exec_reports.specs.Bodies.{body_of, kind_code}
-use Rattle.member_gate.specs.declared.business.TheConstants.{BUSINESS_REJECT, BUSINESS_REJECT_REASON}
+use Rattle.exec_reports.specs.Bodies.{body_of, kind_of}
+use Rattle.member_gate.specs.declared.business.TheConstants.{BUSINESS_REJECT_REASON}
 
 -- a command for the book of a symbol
 pub record Submission : Type 0 where
@@ -55,12 +56,12 @@ business_body number kind =
 
 -- a report as a message
 abbrev pub message_of : List ℕ → List ℕ → Report → Message
-message_of member symbol report = message (kind_code report) (body_of report symbol member)
+message_of member symbol report = message (kind_of report) (body_of report symbol member)
 
 -- the report that answers an order of a symbol that is not configured: it shows the symbol as it was received
 abbrev pub answer_stray : List ℕ → ℤ → Machine → Request → Report → Work
 answer_stray name moment session request report =
-    turned (on_send_one session (kind_code report) (body_of report (text_in SYMBOL request.fields) name) moment)
+    turned (on_send_one session (kind_of report) (body_of report (text_in SYMBOL request.fields) name) moment)
 
 -- what a message gets that asks for this, or is refused so
 abbrev pub answer_to : List ℕ → ℤ → Machine → Request → Result Decoded Refusal → Work
@@ -70,7 +71,7 @@ answer_to name moment session request (Err (Reject reason tag)) =
     turned (on_reject session request.number request.kind tag reason moment)
 answer_to name moment session request (Err Business) =
     turned
-    (on_send_one session BUSINESS_REJECT (business_body request.number (text_in MSG_TYPE request.fields)) moment)
+    (on_send_one session BusinessReject (business_body request.number (text_in MSG_TYPE request.fields)) moment)
 answer_to name moment session request (Err NoMemory) = idle session
 
 -- what a message of a member gets

@@ -3,18 +3,20 @@ ghost use Rattle.std.specs.Prelude.{◌≡◌, ◌+◌, ◌<◌, ◌∷◌, [], 
 ghost use Rattle.std.specs.Option.{option_to_list};
 ghost use Rattle.venue_words.specs.Conditions.{IsConfig};
 ghost use Rattle.venue_words.specs.Floors.{IsSetUpFor};
+ghost use Rattle.fix_write.specs.declared.message_type.MessageType.TheVariants.{BusinessReject};
 ghost use Rattle.session_core.specs.Lookup.{text_in};
 ghost use Rattle.session_core.specs.Machine.{IsUp, on_send_one};
 ghost use Rattle.member_gate.specs.Answering.{answer, answer_to, answer_stray, business_body, name_at};
 ghost use Rattle.member_gate.specs.declared.refusal.DeskRefusal.TheVariants.{NoMemory as no_memory};
 ghost use Rattle.member_gate.specs.Submitting.{TookAll, TookNone};
 
-use crate::business::{BUSINESS_REJECT, business_body};
+use crate::business::business_body;
 use crate::names::name_at;
 use crate::origin::Origin;
 use crate::refusal::DeskRefusal;
 use crate::submitting::submit;
 use exec_reports::{body, kind};
+use fix_write::MessageType;
 use order_fields::tags::SYMBOL;
 use order_fields::{Decoded, Refusal, read_order};
 use session_core::lookup::text_in;
@@ -32,15 +34,15 @@ fn answer_business(
     moment: i64,
 ) -> Result<Bytes, NoMemory>
     requires { IsUp session.old }
-    ensures session { OnOk result (session.new ≡ (on_send_one session.old BUSINESS_REJECT
+    ensures session { OnOk result (session.new ≡ (on_send_one session.old BusinessReject
         (business_body request.now.number (text_in MSG_TYPE request.now.fields)) moment).machine) }
-    ensures reply { IfOk result (λ frame. frame ∷ [] ≡ (on_send_one session.old BUSINESS_REJECT
+    ensures reply { IfOk result (λ frame. frame ∷ [] ≡ (on_send_one session.old BusinessReject
         (business_body request.now.number (text_in MSG_TYPE request.now.fields)) moment).turn.replies) }
     ensures err { OnErr result (session.new ≡ session.old) }
 {
     let kind = text_in(MSG_TYPE, request.fields.as_slice());
     let body = business_body(alloc, request.number, kind)?;
-    session.send(BUSINESS_REJECT, &body, moment)
+    session.send(MessageType::BusinessReject, &body, moment)
 }
 
 /// Sends the report that answers an order of a symbol that is not configured.

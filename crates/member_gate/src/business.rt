@@ -7,9 +7,6 @@ use session_core::tags::{REF_MSG_TYPE, REF_SEQ_NUM};
 use std::alloc::Global;
 use venue_words::NoMemory;
 
-/// MsgType(35) of a BusinessMessageReject.
-pub const BUSINESS_REJECT: u8 = b'j';
-
 /// BusinessRejectReason(380): always 3, which is that messages of the type are not supported.
 pub const BUSINESS_REJECT_REASON: u32 = 380;
 

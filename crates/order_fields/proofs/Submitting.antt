@@ -18,8 +18,9 @@ use Rattle.session_core.specs.Lookup.{value_of, text_in}
 use Rattle.session_core.specs.Checks.{first_failed, failed_by, first_empty, first_repeated, first_missing, first_outside, first_long, is_long, is_longer, tag_of_item}
 use Rattle.session_core.specs.declared.reasons.TheConstants.{TAG_MISSING, TAG_REPEATED, VALUE_MISSING, VALUE_OUT_OF_FORM, VALUE_OUT_OF_RANGE}
 use Rattle.fix_write.specs.declared.tags.TheConstants.{SENDING_TIME}
-use Rattle.session_core.specs.MessageTypes.{is_order}
-use Rattle.session_core.specs.declared.message_types.TheConstants.{NEW_ORDER, CANCEL_REQUEST, REPLACE_REQUEST}
+use Rattle.fix_write.specs.declared.message_type.MessageType.{MessageType}
+use Rattle.fix_write.specs.declared.message_type.MessageType.TheVariants.{NewOrder, CancelRequest, ReplaceRequest}
+use Rattle.fix_write.specs.MessageTypes.{is_order}
 use Rattle.session_core.specs.Tables.{item}
 use Rattle.order_fields.specs.declared.order.Decoded.{Decoded}
 use Rattle.order_fields.specs.declared.tags.TheConstants.{CL_ORD_ID, ORIG_CL_ORD_ID, SYMBOL}
@@ -70,7 +71,7 @@ unfolding text_in
 id_fits tag fields h = short_fits (value_of tag fields) h
 
 -- the first identifier, and the second where there is one
-id_is_short : (kind : ℕ) (fields : List Field) → find (is_long fields) (required_of kind) ≡ None →
+id_is_short : (kind : MessageType) (fields : List Field) → find (is_long fields) (required_of kind) ≡ None →
     (fits_id (text_in CL_ORD_ID fields) ≡ true) × (find (is_long fields) (behind_id kind) ≡ None)
 unfolding required_of
 id_is_short kind fields h =
@@ -99,25 +100,22 @@ by_test true holds fails = holds refl
 by_test false holds fails = fails refl
 
 -- a command of an order that passes the checks keeps to the limits
-command_fits : (kind member : ℕ) (fields : List Field) → fits_id (text_in CL_ORD_ID fields) ≡ true →
+command_fits : (kind : MessageType) (member : ℕ) (fields : List Field) → fits_id (text_in CL_ORD_ID fields) ≡ true →
     find (is_long fields) (behind_id kind) ≡ None → fits_limits (command_of kind member fields) ≡ true
 unfolding command_of behind_id
-command_fits kind member fields id h =
-    by_test (kind == NEW_ORDER) (λ new. rw new id)
-    (λ new. by_test (kind == CANCEL_REQUEST) (λ cancel. rw (new, cancel) (two_fit fields canceling id (rw (new, cancel) at h)))
-    (λ cancel. by_test (kind == REPLACE_REQUEST)
-    (λ replace. rw (new, cancel, replace) (two_fit fields ordering id (rw (new, cancel, replace) at h)))
-    (λ replace. rw (new, cancel, replace) id)))
+command_fits NewOrder member fields id h = id
+command_fits CancelRequest member fields id h = two_fit fields canceling id h
+command_fits ReplaceRequest member fields id h = two_fit fields ordering id h
+command_fits _ member fields id h = id
 
 -- a command of a configured member is configured
-command_configured : (setup : Setup) (kind member : ℕ) (fields : List Field) → nat_lt member setup.members ≡ true →
+command_configured : (setup : Setup) (kind : MessageType) (member : ℕ) (fields : List Field) → nat_lt member setup.members ≡ true →
     is_configured setup (command_of kind member fields) ≡ true
 unfolding command_of
-command_configured setup kind member fields h =
-    by_test (kind == NEW_ORDER) (λ new. rw new h)
-    (λ new. by_test (kind == CANCEL_REQUEST) (λ cancel. rw (new, cancel) h)
-    (λ cancel. by_test (kind == REPLACE_REQUEST) (λ replace. rw (new, cancel, replace) h)
-    (λ replace. rw (new, cancel, replace) h)))
+command_configured setup NewOrder member fields h = h
+command_configured setup CancelRequest member fields h = h
+command_configured setup ReplaceRequest member fields h = h
+command_configured setup _ member fields h = h
 
 -- ---- the whole
 

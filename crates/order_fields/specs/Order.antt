@@ -1,5 +1,5 @@
 -- What an order asks for, or the first reason for which it is refused.
-use Rattle.std.specs.Prelude.{◌≡◌, ◌<◌, ℕ, ◌==◌, not, if◌then◌else◌, List, length, Option, Some, None, Result, Ok, Err, bytes_eq, true, ℤ}
+use Rattle.std.specs.Prelude.{◌≡◌, ◌<◌, ℕ, not, if◌then◌else◌, List, length, Option, Some, None, Result, Ok, Err, bytes_eq, true, ℤ}
 use Rattle.std.specs.List.{position}
 use Rattle.fix_fields.specs.declared.field.Field.{Field}
 use Rattle.venue_words.specs.declared.rule.Rule.TheVariants.{UnknownSymbol}
@@ -9,15 +9,16 @@ use Rattle.venue_words.specs.declared.config.Config.{Config}
 use Rattle.venue_words.specs.declared.report.Kind.{Kind}
 use Rattle.venue_words.specs.declared.report.Kind.TheVariants.{Rejected, Refused, Unknown}
 use Rattle.venue_words.specs.declared.report.RefusedRequest.{RefusedRequest}
-use Rattle.venue_words.specs.declared.report.RefusedRequest.TheVariants.{Cancel as CancelRequest, Replace as ReplaceRequest}
+use Rattle.venue_words.specs.declared.report.RefusedRequest.TheVariants as refused
+use Rattle.fix_write.specs.declared.message_type.MessageType.{MessageType}
+use Rattle.fix_write.specs.declared.message_type.MessageType.TheVariants.{NewOrder, CancelRequest, ReplaceRequest}
+use Rattle.fix_write.specs.MessageTypes.{is_order}
 use Rattle.venue_words.specs.Conditions.{fits_limits}
 use Rattle.venue_words.specs.Floors.{Setup, is_configured}
-use Rattle.session_core.specs.declared.message_types.TheConstants.{NEW_ORDER, CANCEL_REQUEST, REPLACE_REQUEST}
 use Rattle.session_core.specs.declared.checks.FailedCheck.{FailedCheck}
 use Rattle.session_core.specs.declared.message.Request.{Request}
 use Rattle.session_core.specs.Lookup.{text_in}
 use Rattle.session_core.specs.Checks.{first_failed}
-use Rattle.session_core.specs.MessageTypes.{is_order}
 use Rattle.order_fields.specs.declared.order.Refusal.{Refusal}
 use Rattle.order_fields.specs.declared.order.Refusal.TheVariants.{Reject, Business, NoMemory}
 use Rattle.order_fields.specs.declared.order.Decoded.{Decoded}
@@ -27,13 +28,13 @@ use Rattle.order_fields.specs.Tables.{required_of, optional_of}
 use Rattle.order_fields.specs.Reading.{code_or_zero, amount_or_zero, terms_of}
 
 -- the command that an order asks of a book
-unfoldable pub command_of : ℕ → ℕ → List Field → Command
-command_of kind member fields =
-    if kind == NEW_ORDER then New member (text_in CL_ORD_ID fields) (terms_of fields)
-    else (if kind == CANCEL_REQUEST then Cancel member (text_in CL_ORD_ID fields) (text_in ORIG_CL_ORD_ID fields)
-    else (if kind == REPLACE_REQUEST
-    then Replace member (text_in CL_ORD_ID fields) (text_in ORIG_CL_ORD_ID fields) (terms_of fields)
-    else Status member (text_in CL_ORD_ID fields) (code_or_zero SIDE fields)))
+unfoldable pub command_of : MessageType → ℕ → List Field → Command
+command_of NewOrder member fields = New member (text_in CL_ORD_ID fields) (terms_of fields)
+command_of CancelRequest member fields =
+    Cancel member (text_in CL_ORD_ID fields) (text_in ORIG_CL_ORD_ID fields)
+command_of ReplaceRequest member fields =
+    Replace member (text_in CL_ORD_ID fields) (text_in ORIG_CL_ORD_ID fields) (terms_of fields)
+command_of _ member fields = Status member (text_in CL_ORD_ID fields) (code_or_zero SIDE fields)
 
 -- ---- orders of a symbol that is not configured
 
@@ -42,13 +43,12 @@ abbrev pub stray_refusal : List Field → List ℕ → RefusedRequest → Kind
 stray_refusal fields id request = Refused id (text_in ORIG_CL_ORD_ID fields) None request UnknownSymbol
 
 -- what answers an order
-unfoldable pub stray_kind : ℕ → List Field → Kind
-stray_kind kind fields =
-    if kind == NEW_ORDER
-    then Rejected (text_in CL_ORD_ID fields) (code_or_zero SIDE fields) (amount_or_zero ORDER_QTY fields) UnknownSymbol
-    else (if kind == CANCEL_REQUEST then stray_refusal fields (text_in CL_ORD_ID fields) CancelRequest
-    else (if kind == REPLACE_REQUEST then stray_refusal fields (text_in CL_ORD_ID fields) ReplaceRequest
-    else Unknown (text_in CL_ORD_ID fields) (code_or_zero SIDE fields)))
+unfoldable pub stray_kind : MessageType → List Field → Kind
+stray_kind NewOrder fields =
+    Rejected (text_in CL_ORD_ID fields) (code_or_zero SIDE fields) (amount_or_zero ORDER_QTY fields) UnknownSymbol
+stray_kind CancelRequest fields = stray_refusal fields (text_in CL_ORD_ID fields) refused.Cancel
+stray_kind ReplaceRequest fields = stray_refusal fields (text_in CL_ORD_ID fields) refused.Replace
+stray_kind _ fields = Unknown (text_in CL_ORD_ID fields) (code_or_zero SIDE fields)
 
 -- ---- orders
 

@@ -9,8 +9,8 @@ use crate::reading::{amount_or_zero, code_or_zero, copy_of, terms_of};
 use crate::tables::{optional_of, required_of};
 use crate::tags::{CL_ORD_ID, ORDER_QTY, ORIG_CL_ORD_ID, SIDE, SYMBOL};
 use fix_fields::Field;
+use fix_write::MessageType;
 use session_core::lookup::text_in;
-use session_core::message_types::{CANCEL_REQUEST, NEW_ORDER, REPLACE_REQUEST, is_order};
 use session_core::{Request, first_failed};
 use std::alloc::Global;
 use venue_words::{
@@ -41,7 +41,7 @@ pub enum Decoded {
 #[tactic(auto, unfolding(crate::specs::Order::command_of))]
 fn command_of(
     alloc: Global,
-    kind: u8,
+    kind: MessageType,
     member: u32,
     fields: &[Field<'_>],
 ) -> Result<Command, NoMemory>
@@ -49,17 +49,17 @@ fn command_of(
 {
     let id = copy_of(alloc, CL_ORD_ID, fields)?;
     match kind {
-        NEW_ORDER => Ok(Command::New {
+        MessageType::NewOrder => Ok(Command::New {
             member,
             id,
             terms: BoxedTerms::new(alloc, terms_of(fields))?,
         }),
-        CANCEL_REQUEST => Ok(Command::Cancel {
+        MessageType::CancelRequest => Ok(Command::Cancel {
             member,
             id,
             orig: copy_of(alloc, ORIG_CL_ORD_ID, fields)?,
         }),
-        REPLACE_REQUEST => Ok(Command::Replace {
+        MessageType::ReplaceRequest => Ok(Command::Replace {
             member,
             id,
             orig: copy_of(alloc, ORIG_CL_ORD_ID, fields)?,
@@ -93,19 +93,19 @@ fn refused(
 
 /// What answers an order of a symbol that is not configured.
 #[tactic(auto, unfolding(crate::specs::Order::stray_kind))]
-fn stray_kind(alloc: Global, kind: u8, fields: &[Field<'_>]) -> Result<Kind, NoMemory>
+fn stray_kind(alloc: Global, kind: MessageType, fields: &[Field<'_>]) -> Result<Kind, NoMemory>
     ensures { IfOk result (λ answer. answer ≡ stray_kind kind fields.now) }
 {
     let id = copy_of(alloc, CL_ORD_ID, fields)?;
     match kind {
-        NEW_ORDER => Ok(Kind::Rejected {
+        MessageType::NewOrder => Ok(Kind::Rejected {
             id,
             side: code_or_zero(SIDE, fields),
             quantity: amount_or_zero(ORDER_QTY, fields),
             rule: Rule::UnknownSymbol,
         }),
-        CANCEL_REQUEST => refused(alloc, fields, id, RefusedRequest::Cancel),
-        REPLACE_REQUEST => refused(alloc, fields, id, RefusedRequest::Replace),
+        MessageType::CancelRequest => refused(alloc, fields, id, RefusedRequest::Cancel),
+        MessageType::ReplaceRequest => refused(alloc, fields, id, RefusedRequest::Replace),
         _ => Ok(Kind::Unknown {
             id,
             side: code_or_zero(SIDE, fields),
@@ -181,7 +181,7 @@ pub fn read_order(
     ensures submittable { IsConfig config.now → member < length config.now.members
         → IfOk result (CanSubmit (setup_of config.now)) }
 {
-    if !is_order(request.kind) {
+    if !request.kind.is_order() {
         return Err(Refusal::Business);
     }
     let required = required_of(request.kind);

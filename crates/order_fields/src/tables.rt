@@ -7,25 +7,25 @@ use crate::tags::{
     PEG_OFFSET_TYPE, PEG_OFFSET_VALUE, PEG_PRICE_TYPE, PEG_ROUND_DIRECTION, PRICE, SIDE, SYMBOL,
     TIME_IN_FORCE, TRANSACT_TIME,
 };
-use session_core::message_types::{CANCEL_REQUEST, NEW_ORDER, REPLACE_REQUEST};
+use fix_write::MessageType;
 use session_core::tags::{POSS_DUP_FLAG, SENDING_TIME};
 use session_core::{Item, items};
 
 /// The tags that an order must have, in order; those of every message first.
 #[tactic(auto, unfolding(crate::specs::Tables::required_of, crate::specs::Tables::behind_id))]
-pub fn required_of(kind: u8) -> &'static [Item]
+pub fn required_of(kind: MessageType) -> &'static [Item]
     ensures { result.now ≡ required_of kind }
 {
     match kind {
-        NEW_ORDER => items![
+        MessageType::NewOrder => items![
             SENDING_TIME: Moment, CL_ORD_ID: Identifier, SYMBOL: Text, SIDE: Byte, ORDER_QTY: Amount,
             ORD_TYPE: Byte, TRANSACT_TIME: Moment
         ],
-        CANCEL_REQUEST => items![
+        MessageType::CancelRequest => items![
             SENDING_TIME: Moment, CL_ORD_ID: Identifier, ORIG_CL_ORD_ID: Identifier, SYMBOL: Text,
             SIDE: Byte, TRANSACT_TIME: Moment
         ],
-        REPLACE_REQUEST => items![
+        MessageType::ReplaceRequest => items![
             SENDING_TIME: Moment, CL_ORD_ID: Identifier, ORIG_CL_ORD_ID: Identifier, SYMBOL: Text,
             SIDE: Byte, ORDER_QTY: Amount, ORD_TYPE: Byte, TRANSACT_TIME: Moment
         ],
@@ -35,11 +35,11 @@ pub fn required_of(kind: u8) -> &'static [Item]
 
 /// The tags that it may have, in order; those of every message first.
 #[tactic(auto, unfolding(crate::specs::Tables::optional_of))]
-pub fn optional_of(kind: u8) -> &'static [Item]
+pub fn optional_of(kind: MessageType) -> &'static [Item]
     ensures { result.now ≡ optional_of kind }
 {
     match kind {
-        NEW_ORDER | REPLACE_REQUEST => items![
+        MessageType::NewOrder | MessageType::ReplaceRequest => items![
             POSS_DUP_FLAG: Boolean, PRICE: Amount, TIME_IN_FORCE: Byte, MIN_QTY: Amount,
             MIN_QTY_METHOD: Number, PEG_PRICE_TYPE: Number, PEG_OFFSET_VALUE: Amount,
             PEG_OFFSET_TYPE: Number, PEG_MOVE_TYPE: Number, PEG_ROUND_DIRECTION: Number

@@ -4,18 +4,18 @@ use Rattle.std.specs.Prelude.{ℕ, ℤ, length, not, ◌&&◌}
 use Rattle.fix_fields.specs.declared.field.Field.{Field}
 use Rattle.fix_fields.specs.declared.field.FieldFault.{FieldFault}
 use Rattle.fix_fields.specs.Fields.{split}
-use Rattle.session_core.specs.declared.message_types.TheConstants.{SEQUENCE_RESET}
-use Rattle.session_core.specs.declared.tags.TheConstants.{GAP_FILL_FLAG}
+use Rattle.fix_write.specs.declared.message_type.MessageType.{MessageType}
+use Rattle.fix_write.specs.declared.message_type.MessageType.TheVariants.{ResendRequest, Logout}
 use Rattle.session_core.specs.declared.message.Incoming.{Incoming}
 use Rattle.session_core.specs.declared.state.State.{State}
 use Rattle.session_core.specs.declared.plan.Span.{Span}
 use Rattle.session_core.specs.declared.plan.Plan.{Plan}
-use Rattle.session_core.specs.Lookup.{message_number, kind_of, is_yes}
+use Rattle.session_core.specs.Lookup.{message_number, kind_of}
 use Rattle.session_core.specs.Content.{content_of}
 use Rattle.session_core.specs.State.{is_up, heard}
 use Rattle.session_core.specs.Answers.{logs_out, drops, rejects, unless_failed, drops_wrong_name}
 use Rattle.session_core.specs.Resend.{resends, on_resend_request}
-use Rattle.session_core.specs.Sequence.{on_logout, too_low, too_early, by_number, when_up}
+use Rattle.session_core.specs.Sequence.{on_logout, too_low, resends_early, too_early, by_number, in_reset_mode, when_up}
 use Rattle.session_core.specs.Cases.{on_message}
 use Rattle.session_core.specs.Machine.{Machine, on_frame, on_fields, carried_out, sent_now, plan_for, incoming}
 use Rattle.session_core.specs.Laws.{is_astray, is_garbled_or_astray, NumberStays}
@@ -56,10 +56,17 @@ logout-next : (state : State) (message : Incoming) → (on_logout state message)
 unfolding on_logout logs_out
 logout-next state message = on_logout-next state message _ _ refl
 
-too_early-next : (state : State) (message : Incoming) (sent : ℕ) →
-    (too_early state message sent).state.next_in ≡ state.next_in
+resends_early-next : (state : State) (message : Incoming) (sent : ℕ) →
+    (resends_early state message sent).state.next_in ≡ state.next_in
+unfolding resends_early
+resends_early-next state message sent = grind (arith, on_resend_request-next)
+
+too_early-next : (kind : MessageType) (state : State) (message : Incoming) (sent : ℕ) →
+    (too_early kind state message sent).state.next_in ≡ state.next_in
 unfolding too_early
-too_early-next state message sent = grind (arith, logout-next, on_resend_request-next)
+too_early-next Logout state message sent = logout-next state message
+too_early-next ResendRequest state message sent = resends_early-next state message sent
+too_early-next _ state message sent = refl
 
 by_number-next : (state : State) (message : Incoming) (sent : ℕ) → (message.number == state.next_in) ≡ false →
     (by_number state message sent).state.next_in ≡ state.next_in
@@ -67,14 +74,14 @@ unfolding by_number
 by_number-next state message sent other = grind (arith, too_low-next, too_early-next)
 
 when_up-next : (state : State) (message : Incoming) (sent : ℕ) → (message.number == state.next_in) ≡ false →
-    ((message.kind == SEQUENCE_RESET) && not (is_yes GAP_FILL_FLAG message.fields)) ≡ false →
+    in_reset_mode message.kind message.fields ≡ false →
     (when_up state message sent).state.next_in ≡ state.next_in
 unfolding when_up
 when_up-next state message sent other no_reset = rw no_reset (by_number-next state message sent other)
 
 on_message-next : (member : List ℕ) (sent : ℕ) (state : State) (message : Incoming) →
     is_up state ≡ true → (message.number == state.next_in) ≡ false →
-    ((message.kind == SEQUENCE_RESET) && not (is_yes GAP_FILL_FLAG message.fields)) ≡ false →
+    in_reset_mode message.kind message.fields ≡ false →
     (on_message member sent state message).state.next_in ≡ state.next_in
 unfolding on_message
 on_message-next member sent state message up other no_reset =
@@ -94,7 +101,7 @@ plan_for-next : (machine : Machine) (state : State) (fields : List Field) (numbe
     (plan_for machine state fields number).state.next_in ≡ state.next_in
 plan_for-next machine state fields None up found astray = drops-next state _ _
 plan_for-next machine state fields (Some number) up found astray =
-    let resets = (kind_of fields == SEQUENCE_RESET) && not (is_yes GAP_FILL_FLAG fields) in
+    let resets = in_reset_mode (kind_of fields) fields in
     let parts = both (number == state.next_in) resets (rw found at astray) in
     on_message-next machine.member (length machine.sent) state (incoming number fields) up parts.0 parts.1
 

@@ -1,10 +1,12 @@
 -- A session that is up forgets nothing.
 use Rattle.std.proofs.Common.{◌≡◌, ◌++◌, List, [], Option, None, Some, Result, Ok, Err, true, false, refl, arith, sym}
-use Rattle.std.specs.Prelude.{ℕ, ℤ, length}
+use Rattle.std.specs.Prelude.{ℕ, ◌+◌, ℤ, length}
 use Rattle.std.proofs.lemmas.List.{append-nil}
 use Rattle.fix_fields.specs.declared.field.Field.{Field}
 use Rattle.fix_fields.specs.declared.field.FieldFault.{FieldFault}
 use Rattle.fix_fields.specs.Fields.{split}
+use Rattle.fix_write.specs.declared.message_type.MessageType.{MessageType}
+use Rattle.fix_write.specs.declared.message_type.MessageType.TheVariants.{ResendRequest, SequenceReset, Logout}
 use Rattle.session_core.specs.declared.message.Incoming.{Incoming}
 use Rattle.session_core.specs.declared.message.Kept.{Kept}
 use Rattle.session_core.specs.declared.state.State.{State}
@@ -19,7 +21,7 @@ use Rattle.session_core.specs.Tables.{failed_of}
 use Rattle.session_core.specs.State.{is_up, is_up_phase, is_over, heard}
 use Rattle.session_core.specs.Answers.{logs_out, drops, rejects, unless_failed, drops_wrong_name}
 use Rattle.session_core.specs.Resend.{resends, on_resend_request}
-use Rattle.session_core.specs.Sequence.{sets_next, on_reset, on_logout, too_low, too_early, answers_test, by_type, in_turn, by_number, when_up}
+use Rattle.session_core.specs.Sequence.{sets_next, on_reset, on_logout, too_low, resends_early, too_early, answers_test, by_type, in_turn, by_number, when_up}
 use Rattle.session_core.specs.Cases.{on_message, on_too_long, on_tick}
 use Rattle.session_core.specs.Frames.{numbers_of}
 use Rattle.session_core.specs.Machine.{Machine, on_frame, on_fields, on_clock, on_overlong, on_send, on_reject, carried_out, plan_for, incoming}
@@ -64,21 +66,31 @@ on_logout-reset : (state : State) (message : Incoming) → (on_logout state mess
 unfolding on_logout logs_out
 on_logout-reset state message = unless_failed-reset state message _ _ refl
 
-too_early-reset : (state : State) (message : Incoming) (sent : ℕ) → (too_early state message sent).reset ≡ false
-unfolding too_early
-too_early-reset state message sent = grind (arith, on_logout-reset, on_resend_request-reset)
+resends_early-reset : (state : State) (message : Incoming) (sent : ℕ) → (resends_early state message sent).reset ≡ false
+unfolding resends_early
+resends_early-reset state message sent = grind (arith, on_resend_request-reset)
 
-by_type-reset : (state : State) (message : Incoming) (sent : ℕ) → (by_type state message sent).reset ≡ false
+too_early-reset : (kind : MessageType) (state : State) (message : Incoming) (sent : ℕ) →
+    (too_early kind state message sent).reset ≡ false
+unfolding too_early
+too_early-reset Logout state message sent = on_logout-reset state message
+too_early-reset ResendRequest state message sent = resends_early-reset state message sent
+too_early-reset _ state message sent = refl
+
+by_type-reset : (kind : MessageType) (state : State) (message : Incoming) (sent : ℕ) →
+    (by_type kind state message sent).reset ≡ false
 unfolding by_type logs_out rejects answers_test
-by_type-reset state message sent = grind (arith, on_resend_request-reset, sets_next-reset)
+by_type-reset ResendRequest state message sent = on_resend_request-reset state message sent
+by_type-reset SequenceReset state message sent = sets_next-reset state message (message.number + 1)
+by_type-reset _ state message sent = refl
 
 in_turn-reset : (state : State) (message : Incoming) (sent : ℕ) → (in_turn state message sent).reset ≡ false
 unfolding in_turn
 in_turn-reset state message sent =
     let failed = failed_of message.kind message.fields in
-    let plan = by_type state message sent in
+    let plan = by_type message.kind state message sent in
     let passes : (unless_failed state message failed plan).reset ≡ false =
-    unless_failed-reset state message failed plan (by_type-reset state message sent) in
+    unless_failed-reset state message failed plan (by_type-reset message.kind state message sent) in
     grind arith
 
 by_number-reset : (state : State) (message : Incoming) (sent : ℕ) → (by_number state message sent).reset ≡ false

@@ -3,6 +3,7 @@ use Rattle.std.proofs.Common.{◌≡◌, ℕ, zero, suc, ◌+◌, ◌-◌, ◌<�
 use Rattle.std.specs.Prelude.{slice_range, ℤ, OnOk}
 use Rattle.std.proofs.lemmas.List.{append-nil, map-append, length-append, length-drop, take_all, take_at, take-append-le, drop_at, drop-append-le, drop_more}
 use Rattle.std.proofs.lemmas.List.Elements.{All-head, All-tail, All-push, All-append, All-weaker, All-replicate}
+use Rattle.fix_write.specs.declared.message_type.MessageType.{MessageType}
 use Rattle.session_core.specs.declared.message.Kept.{Kept}
 use Rattle.session_core.specs.declared.message.Message.{Message}
 use Rattle.session_core.specs.declared.sent.Place.{Place}
@@ -40,7 +41,7 @@ within_more count more h (Some place) within = (within.0, omega arith)
 -- ---- a message that is added
 
 -- the place of a body behind the others
-abbrev pub place_behind : List ℕ → ℕ → List ℕ → ℤ → Place
+abbrev pub place_behind : List ℕ → MessageType → List ℕ → ℤ → Place
 place_behind bodies kind body moment =
     record { kind = kind; moment = moment; start = length bodies; end = length bodies + length body }
 
@@ -49,7 +50,7 @@ slice_behind bodies body =
     ap (take (length bodies + length body - length bodies)) (drop_at bodies body (length bodies) refl)
     ∙ take_all (length bodies + length body - length bodies) body (omega arith)
 
-pub entries_pushed : (bodies : List ℕ) (places : List (Option Place)) (kind : ℕ) (body : List ℕ) (moment : ℤ) →
+pub entries_pushed : (bodies : List ℕ) (places : List (Option Place)) (kind : MessageType) (body : List ℕ) (moment : ℤ) →
     All (IsWithin (length bodies)) places →
     entries_in (bodies ++ body) (places ++ Some (place_behind bodies kind body moment) ∷ [])
     ≡ entries_in bodies places ++ kept moment (message kind body) ∷ []
@@ -57,7 +58,7 @@ entries_pushed bodies places kind body moment within =
     let place : Option Place = Some (place_behind bodies kind body moment) in
     rw (map-append (entry_in (bodies ++ body)) places (place ∷ []), entries_before bodies body places within, slice_behind bodies body) refl
 
-pub within_pushed : (bodies : List ℕ) (places : List (Option Place)) (kind : ℕ) (body : List ℕ) (moment : ℤ) →
+pub within_pushed : (bodies : List ℕ) (places : List (Option Place)) (kind : MessageType) (body : List ℕ) (moment : ℤ) →
     All (IsWithin (length bodies)) places →
     All (IsWithin (length (bodies ++ body))) (places ++ Some (place_behind bodies kind body moment) ∷ [])
 within_pushed bodies places kind body moment within =
@@ -68,7 +69,7 @@ within_pushed bodies places kind body moment within =
     All-push (IsWithin (length (bodies ++ body))) places (Some (place_behind bodies kind body moment)) before (omega arith, omega arith)
 
 -- behind what stood there, seen as a list
-pub pushed_is : (bodies new_bodies : List ℕ) (places new_places : List (Option Place)) (kind : ℕ) (body : List ℕ) (moment : ℤ) (before : List (Option Kept)) →
+pub pushed_is : (bodies new_bodies : List ℕ) (places new_places : List (Option Place)) (kind : MessageType) (body : List ℕ) (moment : ℤ) (before : List (Option Kept)) →
     All (IsWithin (length bodies)) places → entries_in bodies places ≡ before →
     new_bodies ≡ bodies ++ body → new_places ≡ places ++ Some (place_behind bodies kind body moment) ∷ [] →
     entries_in new_bodies new_places ≡ before ++ kept moment (message kind body) ∷ []

@@ -4,6 +4,7 @@ use Rattle.std.specs.Prelude.{ℕ, ℤ, length, option_map}
 use Rattle.fix_fields.specs.declared.field.Field.{Field}
 use Rattle.fix_fields.specs.declared.field.FieldFault.{FieldFault}
 use Rattle.fix_fields.specs.Fields.{split}
+use Rattle.fix_write.specs.declared.message_type.MessageType.{MessageType}
 use Rattle.session_core.specs.declared.plan.Plan.{Plan}
 use Rattle.session_core.specs.declared.message.Message.{Message}
 use Rattle.session_core.specs.declared.runs.Input.{Input}
@@ -119,7 +120,7 @@ unfolding on_send
 sends-alike a b messages moment alike = record { member = alike.member; state = sent_now-alike moment _ a.state ∙ alike.state }
 
 -- or a Reject
-pub rejects-alike : (a b : Machine) (number kind tag reason : ℕ) (moment : ℤ) → AreAlike a b → AreAlike (on_reject a number kind tag reason moment).machine b
+pub rejects-alike : (a b : Machine) (number : ℕ) (kind : MessageType) (tag reason : ℕ) (moment : ℤ) → AreAlike a b → AreAlike (on_reject a number kind tag reason moment).machine b
 unfolding on_reject
 rejects-alike a b number kind tag reason moment alike = record { member = alike.member; state = alike.state }
 
@@ -131,7 +132,7 @@ if-alike false outcome a b h k = k
 pub sends_if_up-alike : (a b : Machine) (messages : List Message) (moment : ℤ) → AreAlike a b → AreAlike (send_if_up a messages moment).machine b
 sends_if_up-alike a b messages moment alike = if-alike (is_up a.state) _ a b (sends-alike a b messages moment alike) alike
 
-pub rejects_if_up-alike : (a b : Machine) (number kind tag reason : ℕ) (moment : ℤ) → AreAlike a b → AreAlike (reject_if_up a number kind tag reason moment).machine b
+pub rejects_if_up-alike : (a b : Machine) (number : ℕ) (kind : MessageType) (tag reason : ℕ) (moment : ℤ) → AreAlike a b → AreAlike (reject_if_up a number kind tag reason moment).machine b
 rejects_if_up-alike a b number kind tag reason moment alike = if-alike (is_up a.state) _ a b (rejects-alike a b number kind tag reason moment alike) alike
 
 -- ---- alike in any order of the two
@@ -160,7 +161,7 @@ send-quiet : (a : Machine) (messages : List Message) (moment : ℤ) → IsQuiet 
 unfolding on_send
 send-quiet a messages moment = record { request = refl; ended = refl }
 
-reject-quiet : (a : Machine) (number kind tag reason : ℕ) (moment : ℤ) → IsQuiet a (on_reject a number kind tag reason moment)
+reject-quiet : (a : Machine) (number : ℕ) (kind : MessageType) (tag reason : ℕ) (moment : ℤ) → IsQuiet a (on_reject a number kind tag reason moment)
 unfolding on_reject
 reject-quiet a number kind tag reason moment = record { request = refl; ended = refl }
 

@@ -3,18 +3,19 @@ use Rattle.std.proofs.Common.{◌≡◌, List, [], Option, None, Some, refl, ari
 use Rattle.std.specs.Prelude.{ℕ, ◌+◌, ℤ}
 use Rattle.session_core.specs.declared.message.Incoming.{Incoming}
 use Rattle.session_core.specs.declared.state.State.{State}
-use Rattle.session_core.specs.declared.message_types.TheConstants.{LOGOUT}
 use Rattle.session_core.specs.declared.state.EndCause.{EndCause}
-use Rattle.session_core.specs.declared.state.EndCause.TheVariants.{Logout}
+use Rattle.session_core.specs.declared.state.EndCause.TheVariants as cause
 use Rattle.session_core.specs.declared.plan.Span.{Span}
 use Rattle.session_core.specs.declared.plan.Plan.{Plan}
 use Rattle.session_core.specs.declared.checks.FailedCheck.{FailedCheck}
+use Rattle.fix_write.specs.declared.message_type.MessageType.{MessageType}
+use Rattle.fix_write.specs.declared.message_type.MessageType.TheVariants.{ResendRequest, SequenceReset, Logout, Logon}
 use Rattle.fix_write.specs.declared.tags.TheConstants.{SENDER_COMP_ID, TARGET_COMP_ID}
 use Rattle.session_core.specs.Tables.{failed_of}
 use Rattle.session_core.specs.Alike.{but_for_sent}
 use Rattle.session_core.specs.Answers.{logs_out, drops, rejects, unless_failed, drops_wrong_name}
 use Rattle.session_core.specs.Resend.{resends, on_resend_request}
-use Rattle.session_core.specs.Sequence.{sets_next, on_reset, on_logout, too_low, too_early, answers_test, by_type, in_turn, by_number, when_up}
+use Rattle.session_core.specs.Sequence.{sets_next, on_reset, on_logout, too_low, resends_early, too_early, answers_test, by_type, in_turn, by_number, when_up}
 use Rattle.session_core.specs.Logon.{before_logon, on_logon, takes_logon}
 use Rattle.session_core.specs.Cases.{on_message, on_too_long, on_tick, on_no_number}
 
@@ -74,7 +75,7 @@ on_logout-alike : (state : State) (last : ℤ) (message : Incoming) →
     ArePlannedAlike (on_logout (sent_at state last) message) (on_logout state message)
 unfolding on_logout logs_out
 on_logout-alike state last message =
-    unless_failed-alike state last message (failed_of LOGOUT message.fields) (logs_out (sent_at state last) Logout []) (logs_out state Logout [])
+    unless_failed-alike state last message (failed_of Logout message.fields) (logs_out (sent_at state last) cause.Logout []) (logs_out state cause.Logout [])
     (record { state = refl; request = refl })
 
 too_low-alike : (state : State) (last : ℤ) (message : Incoming) →
@@ -82,31 +83,34 @@ too_low-alike : (state : State) (last : ℤ) (message : Incoming) →
 unfolding too_low logs_out
 too_low-alike state last message = record { state = grind arith; request = grind arith }
 
-too_early-alike : (state : State) (last : ℤ) (message : Incoming) (first second : ℕ) →
-    ArePlannedAlike (too_early (sent_at state last) message first) (too_early state message second)
-unfolding too_early
-too_early-alike state last message first second =
-    let logout = on_logout-alike state last message in
+resends_early-alike : (state : State) (last : ℤ) (message : Incoming) (first second : ℕ) →
+    ArePlannedAlike (resends_early (sent_at state last) message first) (resends_early state message second)
+unfolding resends_early
+resends_early-alike state last message first second =
     let again = on_resend_request-alike state last message first second in record {
-      state = let a = logout.state in let b = again.state in grind arith;
-      request = let a = logout.request in let b = again.request in grind arith;
+      state = let a = again.state in grind arith;
+      request = let a = again.request in grind arith;
     }
 
-by_type-alike : (state : State) (last : ℤ) (message : Incoming) (first second : ℕ) →
-    ArePlannedAlike (by_type (sent_at state last) message first) (by_type state message second)
+too_early-alike : (kind : MessageType) (state : State) (last : ℤ) (message : Incoming) (first second : ℕ) →
+    ArePlannedAlike (too_early kind (sent_at state last) message first) (too_early kind state message second)
+unfolding too_early
+too_early-alike Logout state last message first second = on_logout-alike state last message
+too_early-alike ResendRequest state last message first second = resends_early-alike state last message first second
+too_early-alike _ state last message first second = record { state = refl; request = refl }
+
+by_type-alike : (kind : MessageType) (state : State) (last : ℤ) (message : Incoming) (first second : ℕ) →
+    ArePlannedAlike (by_type kind (sent_at state last) message first) (by_type kind state message second)
 unfolding by_type logs_out rejects answers_test
-by_type-alike state last message first second =
-    let again = on_resend_request-alike state last message first second in
-    let sets = sets_next-alike state last message (message.number + 1) in record {
-      state = let a = sets.state in let b = again.state in grind arith;
-      request = let a = sets.request in let b = again.request in grind arith;
-    }
+by_type-alike ResendRequest state last message first second = on_resend_request-alike state last message first second
+by_type-alike SequenceReset state last message first second = sets_next-alike state last message (message.number + 1)
+by_type-alike _ state last message first second = record { state = refl; request = refl }
 
 in_turn-alike : (state : State) (last : ℤ) (message : Incoming) (first second : ℕ) →
     ArePlannedAlike (in_turn (sent_at state last) message first) (in_turn state message second)
 unfolding in_turn
 in_turn-alike state last message first second =
-    let passed = unless_failed-alike state last message (failed_of message.kind message.fields) _ _ (by_type-alike state last message first second) in record {
+    let passed = unless_failed-alike state last message (failed_of message.kind message.fields) _ _ (by_type-alike message.kind state last message first second) in record {
       state = let a = passed.state in grind arith;
       request = let a = passed.request in grind arith;
     }
@@ -116,7 +120,7 @@ by_number-alike : (state : State) (last : ℤ) (message : Incoming) (first secon
 unfolding by_number
 by_number-alike state last message first second =
     let low = too_low-alike state last message in
-    let early = too_early-alike state last message first second in
+    let early = too_early-alike message.kind state last message first second in
     let turn = in_turn-alike (record state { next_in = message.number + 1 }) last message first second in record {
       state = let a = low.state in let b = early.state in let c = turn.state in grind arith;
       request = let a = low.request in let b = early.request in let c = turn.request in grind arith;
@@ -137,14 +141,11 @@ on_logon-alike : (state : State) (last : ℤ) (message : Incoming) →
 unfolding on_logon logs_out takes_logon
 on_logon-alike state last message = record { state = grind arith; request = grind arith }
 
-before_logon-alike : (state : State) (last : ℤ) (message : Incoming) →
-    ArePlannedAlike (before_logon (sent_at state last) message) (before_logon state message)
+before_logon-alike : (kind : MessageType) (state : State) (last : ℤ) (message : Incoming) →
+    ArePlannedAlike (before_logon kind (sent_at state last) message) (before_logon kind state message)
 unfolding before_logon
-before_logon-alike state last message =
-    let logon = on_logon-alike state last message in record {
-      state = let a = logon.state in grind arith;
-      request = let a = logon.request in grind arith;
-    }
+before_logon-alike Logon state last message = on_logon-alike state last message
+before_logon-alike _ state last message = record { state = refl; request = refl }
 
 pub no_number-alike : (state : State) (last : ℤ) → ArePlannedAlike (on_no_number (sent_at state last)) (on_no_number state)
 no_number-alike state last = drops-alike state last _ _
@@ -156,7 +157,7 @@ message-alike member state last message first second =
     let sender = drops_wrong_name-alike state last message SENDER_COMP_ID in
     let target = drops_wrong_name-alike state last message TARGET_COMP_ID in
     let up = when_up-alike state last message first second in
-    let before = before_logon-alike state last message in record {
+    let before = before_logon-alike message.kind state last message in record {
       state = let a = sender.state in let b = target.state in let c = up.state in let d = before.state in grind arith;
       request = let a = sender.request in let b = target.request in let c = up.request in let d = before.request in grind arith;
     }

@@ -24,7 +24,7 @@ on_message member sent state incoming =
     if not (is_value SENDER_COMP_ID member incoming.fields) then drops_wrong_name state incoming SENDER_COMP_ID
     else (if not (is_value TARGET_COMP_ID venue incoming.fields)
     then drops_wrong_name state incoming TARGET_COMP_ID
-    else (if is_up state then when_up state incoming sent else before_logon state incoming))
+    else (if is_up state then when_up state incoming sent else before_logon incoming.kind state incoming))
 
 -- what a frame that is too long asks
 unfoldable pub on_too_long : State → Plan

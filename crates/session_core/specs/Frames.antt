@@ -2,13 +2,14 @@
 use Rattle.std.specs.Prelude.{ℕ, ◌+◌, List, [], ◌∷◌, length, map, replicate, Option, Some, None, ℤ}
 use Rattle.venue_words.specs.Limits.{venue}
 use Rattle.fix_write.specs.Framing.{frame_of}
+use Rattle.fix_write.specs.MessageTypes.{byte_of}
 use Rattle.session_core.specs.declared.message.Kept.{Kept}
 use Rattle.session_core.specs.declared.message.Message.{Message}
 
 -- the frame of a message to a member
 unfoldable pub new_frame : List ℕ → ℤ → ℕ → Message → List ℕ
 new_frame member moment number message =
-    frame_of message.kind venue member number moment None message.body
+    frame_of (byte_of message.kind) venue member number moment None message.body
 
 -- the frames of messages, numbered from this number on
 unfoldable pub new_frames : List ℕ → ℤ → ℕ → List Message → List (List ℕ)

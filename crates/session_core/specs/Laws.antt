@@ -6,14 +6,13 @@ use Rattle.venue_words.specs.declared.refusal.NoMemory.{NoMemory}
 use Rattle.fix_fields.specs.declared.field.Field.{Field}
 use Rattle.fix_fields.specs.declared.field.FieldFault.{FieldFault}
 use Rattle.fix_fields.specs.Fields.{split}
-use Rattle.session_core.specs.declared.message_types.TheConstants.{SEQUENCE_RESET}
-use Rattle.session_core.specs.declared.tags.TheConstants.{GAP_FILL_FLAG}
 use Rattle.session_core.specs.declared.message.Kept.{Kept}
 use Rattle.session_core.specs.declared.runs.Input.{Input}
 use Rattle.session_core.specs.declared.runs.Input.TheVariants.{Connection, Frame, TooLong, Tick, Send, Reject}
 use Rattle.session_core.specs.declared.turn.Turn.{Turn}
-use Rattle.session_core.specs.Lookup.{message_number, kind_of, is_yes}
+use Rattle.session_core.specs.Lookup.{message_number, kind_of}
 use Rattle.session_core.specs.Content.{content_of}
+use Rattle.session_core.specs.Sequence.{in_reset_mode}
 use Rattle.session_core.specs.Machine.{Machine, IsUp, IsOver, rests, on_frame}
 use Rattle.session_core.specs.Runs.{Follows, outcome_of}
 use Rattle.session_core.specs.Alike.{AreAlike, GiveAlike, is_sent}
@@ -22,7 +21,7 @@ use Rattle.session_core.specs.Alike.{AreAlike, GiveAlike, is_sent}
 abbrev pub is_astray : ℕ → List Field → Bool
 is_astray next fields =
     not (option_map_or (λ number. number == next) (message_number fields) false)
-    && not ((kind_of fields == SEQUENCE_RESET) && not (is_yes GAP_FILL_FLAG fields))
+    && not (in_reset_mode (kind_of fields) fields)
 
 abbrev pub is_garbled_or_astray : ℕ → Result (List Field) FieldFault → Bool
 is_garbled_or_astray next (Err fault) = true

@@ -12,7 +12,6 @@ pub mod Laws
 pub mod Logon
 pub mod Lookup
 pub mod Machine
-pub mod MessageTypes
 pub mod Plan
 pub mod Resend
 pub mod Resent

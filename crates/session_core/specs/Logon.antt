@@ -1,7 +1,8 @@
 -- What a frame asks of a session before its Logon.
 use Rattle.std.specs.Prelude.{ℕ, ◌+◌, ◌==◌, Bool, false, not, ◌&&◌, ◌||◌, nat_lt, if◌then◌else◌, List, [], ◌∷◌, is_some, None, codes}
 use Rattle.std.specs.Option.{option_map_or}
-use Rattle.session_core.specs.declared.message_types.TheConstants.{LOGON}
+use Rattle.fix_write.specs.declared.message_type.MessageType.{MessageType}
+use Rattle.fix_write.specs.declared.message_type.MessageType.TheVariants.{Logon}
 use Rattle.session_core.specs.declared.tags.TheConstants.{ENCRYPT_METHOD, HEART_BT_INT, RESET_SEQ_NUM_FLAG, DEFAULT_APPL_VER_ID}
 use Rattle.session_core.specs.declared.message.Incoming.{Incoming}
 use Rattle.session_core.specs.declared.message.Message.{Message}
@@ -20,7 +21,7 @@ use Rattle.session_core.specs.Answers.{logs_out}
 -- interval above an hour, or to begin again at number 1 with another number
 unfoldable pub is_bad_logon : Incoming → Bool
 is_bad_logon incoming =
-    is_some (failed_of LOGON incoming.fields)
+    is_some (failed_of Logon incoming.fields)
     || not (option_map_or (λ n. n == 0) (number_in ENCRYPT_METHOD incoming.fields) false)
     || not (is_value DEFAULT_APPL_VER_ID (codes "9") incoming.fields)
     || nat_lt 3600 (number_or_zero HEART_BT_INT incoming.fields)
@@ -62,7 +63,7 @@ on_logon state incoming =
     else (if nat_lt incoming.number (next_of_logon state incoming) then logs_out state TooLow (codes "TOO LOW")
     else takes_logon state incoming (is_yes RESET_SEQ_NUM_FLAG incoming.fields) (next_of_logon state incoming))
 
--- what any message asks before the Logon
-unfoldable pub before_logon : State → Incoming → Plan
-before_logon state incoming =
-    if incoming.kind == LOGON then on_logon state incoming else stays (ended NotLogon state)
+-- what any message asks before the Logon, by its type
+unfoldable pub before_logon : MessageType → State → Incoming → Plan
+before_logon Logon state incoming = on_logon state incoming
+before_logon _ state incoming = stays (ended NotLogon state)

@@ -5,6 +5,8 @@ use Rattle.std.specs.Option.{option_map_or}
 use Rattle.fix_fields.specs.declared.field.Field.{Field}
 use Rattle.fix_fields.specs.Forms.{number_of}
 use Rattle.fix_write.specs.declared.tags.TheConstants.{MSG_TYPE, MSG_SEQ_NUM}
+use Rattle.fix_write.specs.declared.message_type.MessageType.{MessageType}
+use Rattle.fix_write.specs.MessageTypes.{type_of}
 
 -- the value of the first field of a tag
 unfoldable pub value_of : ℕ → List Field → Option (List ℕ)
@@ -36,9 +38,9 @@ single_byte [] = 0
 single_byte (byte ∷ []) = byte
 single_byte (byte ∷ other ∷ bytes) = 0
 
--- the byte of the message's type where it has exactly one, and else 0
-unfoldable pub kind_of : List Field → ℕ
-kind_of fields = option_map_or single_byte (value_of MSG_TYPE fields) 0
+-- the message's type, by its byte where it has exactly one, and else by 0
+unfoldable pub kind_of : List Field → MessageType
+kind_of fields = type_of (option_map_or single_byte (value_of MSG_TYPE fields) 0)
 
 -- a number that is not 0
 abbrev pub positive : ℕ → Option ℕ

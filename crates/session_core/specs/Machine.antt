@@ -3,6 +3,8 @@ use Rattle.std.specs.Prelude.{ℕ, ◌+◌, ◌==◌, Bool, if◌then◌else◌,
 use Rattle.fix_fields.specs.declared.field.Field.{Field}
 use Rattle.fix_fields.specs.declared.field.FieldFault.{FieldFault}
 use Rattle.fix_fields.specs.Fields.{split}
+use Rattle.fix_write.specs.declared.message_type.MessageType.{MessageType}
+use Rattle.fix_write.specs.MessageTypes.{byte_of}
 use Rattle.session_core.specs.declared.state.Phase.TheVariants.{New, Ended}
 use Rattle.session_core.specs.declared.state.State.{State}
 use Rattle.session_core.specs.declared.message.Incoming.{Incoming}
@@ -136,13 +138,13 @@ on_send machine messages moment =
       turn = sending machine frames;
     }
 
-abbrev pub on_send_one : Machine → ℕ → List ℕ → ℤ → Outcome
+abbrev pub on_send_one : Machine → MessageType → List ℕ → ℤ → Outcome
 on_send_one machine kind body moment = on_send machine (message kind body ∷ []) moment
 
 -- a Reject that is asked for from outside
-unfoldable pub on_reject : Machine → ℕ → ℕ → ℕ → ℕ → ℤ → Outcome
+unfoldable pub on_reject : Machine → ℕ → MessageType → ℕ → ℕ → ℤ → Outcome
 on_reject machine number kind tag reason moment =
-    let frame = new_frame machine.member moment (length machine.sent + 1) (reject number tag (kind ∷ []) reason) in
+    let frame = new_frame machine.member moment (length machine.sent + 1) (reject number tag (byte_of kind ∷ []) reason) in
     record {
       machine =
           record {

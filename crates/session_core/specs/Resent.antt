@@ -1,8 +1,9 @@
 -- The frames of messages that are sent again.
 use Rattle.std.specs.Prelude.{ℕ, ◌+◌, ◌-◌, List, [], ◌∷◌, ◌++◌, take, drop, map, Option, Some, None, unwrap_or, ℤ}
 use Rattle.venue_words.specs.Limits.{venue}
+use Rattle.fix_write.specs.declared.message_type.MessageType.TheVariants.{SequenceReset}
 use Rattle.fix_write.specs.Framing.{frame_of}
-use Rattle.session_core.specs.declared.message_types.TheConstants.{SEQUENCE_RESET}
+use Rattle.fix_write.specs.MessageTypes.{byte_of}
 use Rattle.session_core.specs.declared.message.Kept.{Kept}
 use Rattle.session_core.specs.declared.plan.Span.{Span}
 use Rattle.session_core.specs.Bodies.{gap_body}
@@ -31,12 +32,12 @@ resent number (None ∷ entries) = with_run number (number + 1) (resent (number 
 -- an application message, with its own number and the moment at which it was first sent
 unfoldable pub old_frame : List ℕ → ℤ → ℕ → Kept → List ℕ
 old_frame member moment number kept =
-    frame_of kept.message.kind venue member number moment (Some kept.moment) kept.message.body
+    frame_of (byte_of kept.message.kind) venue member number moment (Some kept.moment) kept.message.body
 
 -- the SequenceReset that stands for a run of messages of the session, up to before a number
 unfoldable pub gap_frame : List ℕ → ℤ → ℕ → ℕ → List ℕ
 gap_frame member moment first next =
-    frame_of SEQUENCE_RESET venue member first moment (Some moment) (gap_body next)
+    frame_of (byte_of SequenceReset) venue member first moment (Some moment) (gap_body next)
 
 abbrev pub resent_frame : List ℕ → ℤ → Resent → List ℕ
 resent_frame member moment (Again number kept) = old_frame member moment number kept

@@ -2,6 +2,7 @@
 use Rattle.std.specs.Prelude.{◌≡◌, ◌≤◌, ℕ, not, if◌then◌else◌, List, [], ◌∷◌, length, Result, Ok, Err, IsTrue, ℤ}
 use Rattle.venue_words.specs.declared.limits.TheConstants.{MAX_FRAME_BYTES}
 use Rattle.venue_words.specs.declared.refusal.NoMemory.{NoMemory}
+use Rattle.fix_write.specs.declared.message_type.MessageType.{MessageType}
 use Rattle.session_core.specs.declared.message.Message.{Message}
 use Rattle.session_core.specs.declared.runs.Input.{Input}
 use Rattle.session_core.specs.declared.runs.Input.TheVariants.{Connection, Frame, TooLong, Tick, Send, Reject}
@@ -22,7 +23,7 @@ IsShort (Reject number kind tag reason moment) = Unit {0}
 abbrev pub send_if_up : Machine → List Message → ℤ → Outcome
 send_if_up machine messages moment = if is_up machine.state then on_send machine messages moment else rests machine
 
-abbrev pub reject_if_up : Machine → ℕ → ℕ → ℕ → ℕ → ℤ → Outcome
+abbrev pub reject_if_up : Machine → ℕ → MessageType → ℕ → ℕ → ℤ → Outcome
 reject_if_up machine number kind tag reason moment =
     if is_up machine.state then on_reject machine number kind tag reason moment else rests machine
 

@@ -3,13 +3,12 @@ ghost use Rattle.std.specs.Prelude.{◌≡◌, IfOk};
 ghost use Rattle.session_core.specs.Bodies.{logon, heartbeat, test_answer, test_request, resend_request, logout, reject, gap_body};
 
 use crate::message::Message;
-use crate::message_types::{HEARTBEAT, LOGON, LOGOUT, REJECT, RESEND_REQUEST, TEST_REQUEST};
 use crate::tags::{
     BEGIN_SEQ_NO, DEFAULT_APPL_VER_ID, ENCRYPT_METHOD, END_SEQ_NO, GAP_FILL_FLAG, HEART_BT_INT,
     NEW_SEQ_NO, REF_MSG_TYPE, REF_SEQ_NUM, REF_TAG_ID, RESET_SEQ_NUM_FLAG, SESSION_REJECT_REASON,
     TEST_REQ_ID, TEXT,
 };
-use fix_write::{push_field, push_number_field};
+use fix_write::{MessageType, push_field, push_number_field};
 use std::alloc::Global;
 use venue_words::{Bytes, NoMemory};
 
@@ -26,7 +25,7 @@ pub fn logon(alloc: Global, interval: &[u8], reset: bool) -> Result<Message, NoM
         push_field(&mut out, RESET_SEQ_NUM_FLAG, b"Y")?;
     }
     Ok(Message {
-        kind: LOGON,
+        kind: MessageType::Logon,
         body: Bytes(out),
     })
 }
@@ -37,7 +36,7 @@ pub fn heartbeat(alloc: Global) -> Message
     ensures { result ≡ heartbeat }
 {
     Message {
-        kind: HEARTBEAT,
+        kind: MessageType::Heartbeat,
         body: Bytes(Vec::new(alloc)),
     }
 }
@@ -50,7 +49,7 @@ pub fn test_answer(alloc: Global, id: &[u8]) -> Result<Message, NoMemory>
     let mut out = Vec::new(alloc);
     push_field(&mut out, TEST_REQ_ID, id)?;
     Ok(Message {
-        kind: HEARTBEAT,
+        kind: MessageType::Heartbeat,
         body: Bytes(out),
     })
 }
@@ -63,7 +62,7 @@ pub fn test_request(alloc: Global) -> Result<Message, NoMemory>
     let mut out = Vec::new(alloc);
     push_field(&mut out, TEST_REQ_ID, b"T")?;
     Ok(Message {
-        kind: TEST_REQUEST,
+        kind: MessageType::TestRequest,
         body: Bytes(out),
     })
 }
@@ -77,7 +76,7 @@ pub fn resend_request(alloc: Global, first: u32) -> Result<Message, NoMemory>
     push_number_field(&mut out, BEGIN_SEQ_NO, u64::from(first))?;
     push_field(&mut out, END_SEQ_NO, b"0")?;
     Ok(Message {
-        kind: RESEND_REQUEST,
+        kind: MessageType::ResendRequest,
         body: Bytes(out),
     })
 }
@@ -92,7 +91,7 @@ pub fn logout(alloc: Global, text: &[u8]) -> Result<Message, NoMemory>
         push_field(&mut out, TEXT, text)?;
     }
     Ok(Message {
-        kind: LOGOUT,
+        kind: MessageType::Logout,
         body: Bytes(out),
     })
 }
@@ -114,7 +113,7 @@ pub fn reject(
     push_field(&mut out, REF_MSG_TYPE, kind)?;
     push_number_field(&mut out, SESSION_REJECT_REASON, u64::from(reason))?;
     Ok(Message {
-        kind: REJECT,
+        kind: MessageType::Reject,
         body: Bytes(out),
     })
 }

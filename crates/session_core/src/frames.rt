@@ -4,7 +4,7 @@ ghost use Rattle.session_core.specs.Bodies.{message};
 ghost use Rattle.session_core.specs.Frames.{new_frame, new_frames};
 
 use crate::message::Message;
-use fix_write::{Head, frame};
+use fix_write::{Head, MessageType, frame};
 use std::alloc::Global;
 use venue_words::limits::VENUE;
 use venue_words::{Bytes, NoMemory};
@@ -16,13 +16,13 @@ pub fn new_frame(
     member: &[u8],
     moment: i64,
     number: u64,
-    kind: u8,
+    kind: MessageType,
     body: &[u8],
 ) -> Result<Bytes, NoMemory>
     ensures { IfOk result (λ f. f ≡ new_frame member.now moment number (message kind body.now)) }
 {
     let head = Head {
-        kind,
+        kind: kind.byte(),
         sender: VENUE,
         target: member,
         number,

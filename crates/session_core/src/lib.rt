@@ -12,7 +12,6 @@ pub mod laws;
 mod logon;
 pub mod lookup;
 mod message;
-pub mod message_types;
 mod plan;
 pub mod reasons;
 mod resend;

@@ -8,13 +8,13 @@ use crate::answers::logs_out;
 use crate::bodies::logon;
 use crate::lookup::{is_value, is_yes, number_in, number_or_zero, text_in};
 use crate::message::Incoming;
-use crate::message_types::LOGON;
 use crate::plan::{Plan, says_one, stays};
 use crate::resend::then_asks_again;
 use crate::state::{EndCause, Phase, State, ended};
 use crate::tables::failed_of;
 use crate::tags::{DEFAULT_APPL_VER_ID, ENCRYPT_METHOD, HEART_BT_INT, RESET_SEQ_NUM_FLAG};
 use fix_fields::Field;
+use fix_write::MessageType;
 use std::alloc::Global;
 use venue_words::NoMemory;
 
@@ -34,7 +34,7 @@ fn is_bad_logon(incoming: &Incoming<'_>) -> bool
     ensures { result ≡ is_bad_logon incoming.now }
 {
     let fields = incoming.fields.as_slice();
-    failed_of(LOGON, fields).is_some()
+    failed_of(MessageType::Logon, fields).is_some()
         || !is_unencrypted(fields)
         || !is_value(DEFAULT_APPL_VER_ID, b"9", fields)
         || 3600 < number_or_zero(HEART_BT_INT, fields)
@@ -105,12 +105,11 @@ fn on_logon(alloc: Global, state: State, incoming: &Incoming<'_>) -> Result<Plan
 #[tactic(auto, unfolding(crate::specs::Logon::before_logon))]
 pub fn before_logon(alloc: Global, state: State, incoming: &Incoming<'_>) -> Result<Plan, NoMemory>
     requires { incoming.now.number < 1_000_000_000 }
-    ensures plan { IfOk result (λ p. p ≡ before_logon state incoming.now) }
+    ensures plan { IfOk result (λ p. p ≡ before_logon incoming.now.kind state incoming.now) }
     ensures quiet { IfOk result (λ p. p.request ≡ None) }
 {
-    if incoming.kind == LOGON {
-        on_logon(alloc, state, incoming)
-    } else {
-        Ok(stays(alloc, ended(EndCause::NotLogon, state)))
+    match incoming.kind {
+        MessageType::Logon => on_logon(alloc, state, incoming),
+        _ => Ok(stays(alloc, ended(EndCause::NotLogon, state))),
     }
 }

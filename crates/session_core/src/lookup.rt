@@ -5,6 +5,7 @@ ghost use Rattle.session_core.specs.Lookup.{value_of, number_in, number_or_zero,
 
 use crate::tags::{MSG_SEQ_NUM, MSG_TYPE};
 use fix_fields::{Field, number};
+use fix_write::MessageType;
 
 /// The value of a tag.
 #[tactic(auto, unfolding(crate::specs::Lookup::value_of))]
@@ -79,14 +80,14 @@ pub fn single_byte(bytes: &[u8]) -> u8
     }
 }
 
-/// The byte of MsgType(35) where it has exactly one, and else 0.
+/// MsgType(35), by its byte where it has exactly one, and else by 0.
 #[tactic(auto, unfolding(crate::specs::Lookup::kind_of))]
-pub fn kind_of(fields: &[Field<'_>]) -> u8
+pub fn kind_of(fields: &[Field<'_>]) -> MessageType
     ensures { result ≡ kind_of fields.now }
 {
     match value_of(MSG_TYPE, fields) {
-        Some(bytes) => single_byte(bytes),
-        None => 0,
+        Some(bytes) => MessageType::of_byte(single_byte(bytes)),
+        None => MessageType::of_byte(0),
     }
 }
 

@@ -1,5 +1,6 @@
 //! Messages that are received, that are sent, and that are kept.
 use fix_fields::Field;
+use fix_write::MessageType;
 use venue_words::{Bytes, Items};
 
 /// A message that was received, with its number.
@@ -7,8 +8,8 @@ use venue_words::{Bytes, Items};
 pub(crate) struct Incoming<'a> {
     /// MsgSeqNum(34).
     pub number: u32,
-    /// The byte of MsgType(35) where it has exactly one, and else 0.
-    pub kind: u8,
+    /// MsgType(35), by its byte where it has exactly one, and else by 0.
+    pub kind: MessageType,
     /// All its fields, in their order.
     pub fields: Items<Field<'a>>,
 }
@@ -20,8 +21,8 @@ pub(crate) struct Incoming<'a> {
 pub struct Request<'a> {
     /// MsgSeqNum(34).
     pub number: u32,
-    /// The byte of MsgType(35) where it has exactly one, and else 0.
-    pub kind: u8,
+    /// MsgType(35), by its byte where it has exactly one, and else by 0.
+    pub kind: MessageType,
     /// All its fields, in their order.
     pub fields: Items<Field<'a>>,
 }
@@ -30,7 +31,7 @@ pub struct Request<'a> {
 #[derive(Debug, Drop)]
 pub struct Message {
     /// MsgType(35).
-    pub kind: u8,
+    pub kind: MessageType,
     /// Its fields behind the head.
     pub body: Bytes,
 }

@@ -4,6 +4,7 @@ ghost use Rattle.session_core.specs.Plan.{says, stays, hands_out, sends_again};
 
 use crate::message::{Incoming, Message};
 use crate::state::State;
+use fix_write::MessageType;
 use std::alloc::Global;
 use venue_words::{Items, NoMemory};
 
@@ -18,7 +19,7 @@ pub struct Span {
 #[derive(Clone, Copy)]
 pub struct RequestHead {
     pub number: u32,
-    pub kind: u8,
+    pub kind: MessageType,
 }
 
 /// What a turn is to do.

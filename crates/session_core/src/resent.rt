@@ -3,10 +3,9 @@ ghost use Rattle.std.specs.Prelude.{◌≡◌, ◌++◌, IfOk, OnOk, None};
 ghost use Rattle.session_core.specs.Resent.{old_frame, gap_frame, gap_before, frames_at, run_behind, frames_from, part_of, frames_of_span};
 
 use crate::bodies::gap_body;
-use crate::message_types::SEQUENCE_RESET;
 use crate::plan::Span;
 use crate::sent::{SentMessages, Stored};
-use fix_write::{Head, frame};
+use fix_write::{Head, MessageType, frame};
 use std::alloc::Global;
 use venue_words::limits::VENUE;
 use venue_words::{Bytes, NoMemory};
@@ -23,7 +22,7 @@ fn old_frame(
     ensures { IfOk result (λ f. f ≡ old_frame member.now moment number kept.now) }
 {
     let head = Head {
-        kind: kept.kind,
+        kind: kept.kind.byte(),
         sender: VENUE,
         target: member,
         number,
@@ -46,7 +45,7 @@ fn gap_frame(
 {
     let body = gap_body(alloc, next)?;
     let head = Head {
-        kind: SEQUENCE_RESET,
+        kind: MessageType::SequenceReset.byte(),
         sender: VENUE,
         target: member,
         number: first,

@@ -5,6 +5,7 @@ ghost use Rattle.std.specs.List.{AllByRecursion};
 use crate::message::Message;
 use crate::session::Session;
 use crate::turn::Turn;
+use fix_write::MessageType;
 use venue_words::{Bytes, Items, NoMemory};
 
 /// What comes to a session. Moments are in milliseconds since 1970-01-01 00:00 UTC.
@@ -33,7 +34,7 @@ pub enum Input {
     /// A Reject to be sent. A session that is not up passes it over.
     Reject {
         number: u32,
-        kind: u8,
+        kind: MessageType,
         tag: u32,
         reason: u8,
         moment: i64,
@@ -64,7 +65,7 @@ impl Session {
     fn reject_if_up<'a>(
         &mut self,
         number: u32,
-        kind: u8,
+        kind: MessageType,
         tag: u32,
         reason: u8,
         moment: i64,

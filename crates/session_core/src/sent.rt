@@ -5,6 +5,7 @@ ghost use Rattle.session_core.specs.Frames.{all_kept};
 ghost use Rattle.session_core.specs.Sent.{IsWithin, Begins, entries_in, no_places};
 
 use crate::message::Message;
+use fix_write::MessageType;
 use std::alloc::Global;
 use std::marker::Model;
 use venue_words::NoMemory;
@@ -12,7 +13,7 @@ use venue_words::NoMemory;
 /// An application message, without its body: this stands in the list of the bodies, from `start` to before `end`.
 #[derive(Clone, Copy)]
 pub(crate) struct Place {
-    kind: u8,
+    kind: MessageType,
     /// When it was first sent, in milliseconds since 1970-01-01 00:00 UTC.
     moment: i64,
     start: usize,
@@ -22,7 +23,7 @@ pub(crate) struct Place {
 /// An application message that is kept, with its body where it stands.
 #[derive(Drop)]
 pub(crate) struct Stored<'a> {
-    pub kind: u8,
+    pub kind: MessageType,
     pub body: &'a [u8],
     pub moment: i64,
 }
@@ -39,7 +40,7 @@ impl<'a> Model for Stored<'a> {
 fn push_one(
     bodies: &mut Vec<u8>,
     places: &mut Vec<Option<Place>>,
-    kind: u8,
+    kind: MessageType,
     body: &[u8],
     moment: i64,
 ) -> Result<(), NoMemory>
@@ -171,7 +172,7 @@ impl SentMessages {
     }
 
     /// Keeps an application message. Nothing changes where memory is wanted.
-    pub fn push(&mut self, kind: u8, body: &[u8], moment: i64) -> Result<(), NoMemory>
+    pub fn push(&mut self, kind: MessageType, body: &[u8], moment: i64) -> Result<(), NoMemory>
         ensures ok { OnOk result (self.new ≡ self.old ++ kept moment (message kind body.now) ∷ []) }
         ensures err { OnErr result (self.new ≡ self.old) }
     {

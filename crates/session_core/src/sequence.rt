@@ -2,21 +2,19 @@
 ghost use Rattle.std.specs.Prelude.{◌≡◌, ◌<◌, IfOk, None, true};
 ghost use Rattle.session_core.specs.State.{is_up};
 ghost use Rattle.session_core.specs.Plan.{HandsOutUp};
-ghost use Rattle.session_core.specs.Sequence.{sets_next, on_reset, on_logout, too_low, too_early, answers_test, by_type, in_turn, by_number, when_up};
+ghost use Rattle.session_core.specs.Sequence.{sets_next, on_reset, on_logout, too_low, asks_again, resends_early, too_early, answers_test, by_type, in_turn, by_number, in_reset_mode, when_up};
 
 use crate::answers::{logs_out, rejects};
 use crate::bodies::{resend_request, test_answer};
 use crate::lookup::{is_yes, number_or_zero, text_in};
 use crate::message::Incoming;
-use crate::message_types::{
-    HEARTBEAT, LOGON, LOGOUT, REJECT, RESEND_REQUEST, SEQUENCE_RESET, TEST_REQUEST, is_order,
-};
 use crate::plan::{Plan, hands_out, says_one, stays};
 use crate::reasons::{VALUE_OUT_OF_RANGE, WRONG_TYPE};
 use crate::resend::{on_resend_request, then_asks_again};
 use crate::state::{EndCause, State};
 use crate::tables::failed_of;
 use crate::tags::{GAP_FILL_FLAG, MSG_TYPE, NEW_SEQ_NO, POSS_DUP_FLAG, TEST_REQ_ID};
+use fix_write::MessageType;
 use std::alloc::Global;
 use venue_words::NoMemory;
 
@@ -45,7 +43,7 @@ fn on_reset(alloc: Global, state: State, incoming: &Incoming<'_>) -> Result<Plan
     ensures plan { IfOk result (λ p. p ≡ on_reset state incoming.now) }
     ensures quiet { IfOk result (λ p. p.request ≡ None) }
 {
-    match failed_of(SEQUENCE_RESET, incoming.fields.as_slice()) {
+    match failed_of(MessageType::SequenceReset, incoming.fields.as_slice()) {
         Some(failed) => rejects(alloc, state, incoming, failed.tag, failed.reason),
         None => sets_next(alloc, state, incoming, state.next_in),
     }
@@ -57,7 +55,7 @@ fn on_logout(alloc: Global, state: State, incoming: &Incoming<'_>) -> Result<Pla
     ensures plan { IfOk result (λ p. p ≡ on_logout state incoming.now) }
     ensures quiet { IfOk result (λ p. p.request ≡ None) }
 {
-    match failed_of(LOGOUT, incoming.fields.as_slice()) {
+    match failed_of(MessageType::Logout, incoming.fields.as_slice()) {
         Some(failed) => rejects(alloc, state, incoming, failed.tag, failed.reason),
         None => logs_out(alloc, state, EndCause::Logout, b""),
     }
@@ -76,6 +74,32 @@ fn too_low(alloc: Global, state: State, incoming: &Incoming<'_>) -> Result<Plan,
     }
 }
 
+/// Asks for what is missing.
+fn asks_again(alloc: Global, state: State) -> Result<Plan, NoMemory>
+    ensures plan { IfOk result (λ p. p ≡ asks_again state) }
+    ensures quiet { IfOk result (λ p. p.request ≡ None) }
+{
+    says_one(alloc, state, resend_request(alloc, state.next_in)?)
+}
+
+/// A ResendRequest that came too early: where it passes the checks it is answered first.
+#[tactic(auto, unfolding(crate::specs::Sequence::resends_early))]
+fn resends_early(
+    alloc: Global,
+    state: State,
+    incoming: &Incoming<'_>,
+    sent: u64,
+) -> Result<Plan, NoMemory>
+    ensures plan { IfOk result (λ p. p ≡ resends_early state incoming.now sent) }
+    ensures quiet { IfOk result (λ p. p.request ≡ None) }
+{
+    if failed_of(MessageType::ResendRequest, incoming.fields.as_slice()).is_some() {
+        return asks_again(alloc, state);
+    }
+    let plan = on_resend_request(alloc, state, incoming, sent)?;
+    then_asks_again(alloc, plan, state.next_in)
+}
+
 /// A number that came too early. The message is not kept, and is asked for again.
 #[tactic(auto, unfolding(crate::specs::Sequence::too_early))]
 fn too_early(
@@ -84,18 +108,14 @@ fn too_early(
     incoming: &Incoming<'_>,
     sent: u64,
 ) -> Result<Plan, NoMemory>
-    ensures plan { IfOk result (λ p. p ≡ too_early state incoming.now sent) }
+    ensures plan { IfOk result (λ p. p ≡ too_early incoming.now.kind state incoming.now sent) }
     ensures quiet { IfOk result (λ p. p.request ≡ None) }
 {
-    if incoming.kind == LOGOUT {
-        return on_logout(alloc, state, incoming);
+    match incoming.kind {
+        MessageType::Logout => on_logout(alloc, state, incoming),
+        MessageType::ResendRequest => resends_early(alloc, state, incoming, sent),
+        _ => asks_again(alloc, state),
     }
-    let fields = incoming.fields.as_slice();
-    if incoming.kind == RESEND_REQUEST && failed_of(RESEND_REQUEST, fields).is_none() {
-        let plan = on_resend_request(alloc, state, incoming, sent)?;
-        return then_asks_again(alloc, plan, state.next_in);
-    }
-    says_one(alloc, state, resend_request(alloc, state.next_in)?)
 }
 
 /// A TestRequest is answered by a Heartbeat with its identifier.
@@ -118,16 +138,16 @@ fn by_type(
 ) -> Result<Plan, NoMemory>
     requires small { incoming.now.number < 1_000_000_000 }
     requires is_up { is_up state ≡ true }
-    ensures plan { IfOk result (λ p. p ≡ by_type state incoming.now sent) }
+    ensures plan { IfOk result (λ p. p ≡ by_type incoming.now.kind state incoming.now sent) }
     ensures up { IfOk result HandsOutUp }
 {
     match incoming.kind {
-        HEARTBEAT | REJECT => Ok(stays(alloc, state)),
-        TEST_REQUEST => answers_test(alloc, state, incoming),
-        RESEND_REQUEST => on_resend_request(alloc, state, incoming, sent),
-        SEQUENCE_RESET => sets_next(alloc, state, incoming, incoming.number + 1),
-        LOGOUT => logs_out(alloc, state, EndCause::Logout, b""),
-        LOGON => rejects(alloc, state, incoming, MSG_TYPE, WRONG_TYPE),
+        MessageType::Heartbeat | MessageType::Reject => Ok(stays(alloc, state)),
+        MessageType::TestRequest => answers_test(alloc, state, incoming),
+        MessageType::ResendRequest => on_resend_request(alloc, state, incoming, sent),
+        MessageType::SequenceReset => sets_next(alloc, state, incoming, incoming.number + 1),
+        MessageType::Logout => logs_out(alloc, state, EndCause::Logout, b""),
+        MessageType::Logon => rejects(alloc, state, incoming, MSG_TYPE, WRONG_TYPE),
         _ => Ok(hands_out(alloc, state, incoming)),
     }
 }
@@ -145,7 +165,7 @@ fn in_turn(
     ensures plan { IfOk result (λ p. p ≡ in_turn state incoming.now sent) }
     ensures up { IfOk result HandsOutUp }
 {
-    if is_order(incoming.kind) {
+    if incoming.kind.is_order() {
         return Ok(hands_out(alloc, state, incoming));
     }
     match failed_of(incoming.kind, incoming.fields.as_slice()) {
@@ -180,6 +200,17 @@ fn by_number(
     in_turn(alloc, state, incoming, sent)
 }
 
+/// Whether it is a SequenceReset in its reset mode: one that is no gap fill.
+#[tactic(auto, unfolding(crate::specs::Sequence::in_reset_mode))]
+fn in_reset_mode(incoming: &Incoming<'_>) -> bool
+    ensures { result ≡ in_reset_mode incoming.now.kind incoming.now.fields }
+{
+    match incoming.kind {
+        MessageType::SequenceReset => !is_yes(GAP_FILL_FLAG, incoming.fields.as_slice()),
+        _ => false,
+    }
+}
+
 /// What a message asks of a session that is up, where `sent` is the last number that was sent.
 #[tactic(auto, unfolding(crate::specs::Sequence::when_up))]
 pub fn when_up(
@@ -193,7 +224,7 @@ pub fn when_up(
     ensures plan { IfOk result (λ p. p ≡ when_up state incoming.now sent) }
     ensures up { IfOk result HandsOutUp }
 {
-    if incoming.kind == SEQUENCE_RESET && !is_yes(GAP_FILL_FLAG, incoming.fields.as_slice()) {
+    if in_reset_mode(incoming) {
         on_reset(alloc, state, incoming)
     } else {
         by_number(alloc, state, incoming, sent)

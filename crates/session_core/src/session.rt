@@ -14,6 +14,7 @@ use crate::sent::SentMessages;
 use crate::state::{EndCause, Phase, State, cause_of, heard, is_over, is_up};
 use crate::turn::{Turn, request_of, sent_now};
 use fix_fields::{Field, FieldFault, fields};
+use fix_write::MessageType;
 use std::alloc::Global;
 use std::marker::Model;
 use venue_words::limits::MAX_FRAME_BYTES;
@@ -357,7 +358,7 @@ impl Session {
     /// Frames an application message with the next number and keeps it, so that the member can ask for it again.
     /// Nothing changes where memory is wanted.
     #[tactic(auto, unfolding(crate::specs::Machine::on_send, crate::specs::Frames::new_frames))]
-    pub fn send(&mut self, kind: u8, body: &[u8], moment: i64) -> Result<Bytes, NoMemory>
+    pub fn send(&mut self, kind: MessageType, body: &[u8], moment: i64) -> Result<Bytes, NoMemory>
         requires { IsUp self.old }
         ensures machine { OnOk result (self.new ≡ (on_send_one self.old kind body.now moment).machine) }
         ensures reply { IfOk result (λ frame. frame ∷ [] ≡ (on_send_one self.old kind body.now moment).turn.replies) }
@@ -400,7 +401,7 @@ impl Session {
     pub fn reject(
         &mut self,
         number: u32,
-        kind: u8,
+        kind: MessageType,
         tag: u32,
         reason: u8,
         moment: i64,
@@ -411,7 +412,7 @@ impl Session {
             ≡ (on_reject self.old number kind tag reason moment).turn.replies) }
         ensures err { OnErr result (self.new ≡ self.old) }
     {
-        let message = reject(self.alloc, number, tag, &[kind], reason)?;
+        let message = reject(self.alloc, number, tag, &[kind.byte()], reason)?;
         let member = self.member.as_slice();
         let place = self.sent.len() as u64 + 1;
         let body = message.body.as_slice();
