@@ -7,4 +7,4 @@ mod tables;
 pub mod tags;
 
 pub use eager_meaning::{Known, verdict};
-pub use order::{Decoded, Refusal, read_order};
+pub use order::{Decoded, Refusal, command_of, read_order};

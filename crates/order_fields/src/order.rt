@@ -37,9 +37,10 @@ pub enum Decoded {
     Stray { report: Report },
 }
 
-/// The command that an order asks of a book.
+/// The command that an order asks of a book, whose fields are read as they stand: what is missing or has another form counts as
+/// none, or as 0.
 #[tactic(auto, unfolding(crate::specs::Order::command_of))]
-fn command_of(
+pub fn command_of(
     alloc: Global,
     kind: MessageType,
     member: u32,
