@@ -64,46 +64,38 @@ fn copy_of_kind(alloc: Global, kind: &Kind) -> Result<Kind, AllocError>
     ensures { IfOk result (λ copy. copy ≡ kind.now) }
 {
     match kind {
-        Kind::Order { view, execution } => {
-            let view = copy_of_view(alloc, view)?;
-            let execution = copy_of_execution(alloc, execution)?;
-            Ok(Kind::Order { view, execution })
-        }
+        Kind::Order { view, execution } => Ok(Kind::Order {
+            view: copy_of_view(alloc, view)?,
+            execution: copy_of_execution(alloc, execution)?,
+        }),
         Kind::Rejected {
             id,
             side,
             quantity,
             rule,
-        } => {
-            let id = copy_of_bytes(alloc, id)?;
-            Ok(Kind::Rejected {
-                id,
-                side: *side,
-                quantity: *quantity,
-                rule: *rule,
-            })
-        }
-        Kind::Unknown { id, side } => {
-            let id = copy_of_bytes(alloc, id)?;
-            Ok(Kind::Unknown { id, side: *side })
-        }
+        } => Ok(Kind::Rejected {
+            id: copy_of_bytes(alloc, id)?,
+            side: *side,
+            quantity: *quantity,
+            rule: *rule,
+        }),
+        Kind::Unknown { id, side } => Ok(Kind::Unknown {
+            id: copy_of_bytes(alloc, id)?,
+            side: *side,
+        }),
         Kind::Refused {
             id,
             orig,
             order,
             request,
             rule,
-        } => {
-            let id = copy_of_bytes(alloc, id)?;
-            let orig = copy_of_bytes(alloc, orig)?;
-            Ok(Kind::Refused {
-                id,
-                orig,
-                order: *order,
-                request: *request,
-                rule: *rule,
-            })
-        }
+        } => Ok(Kind::Refused {
+            id: copy_of_bytes(alloc, id)?,
+            orig: copy_of_bytes(alloc, orig)?,
+            order: *order,
+            request: *request,
+            rule: *rule,
+        }),
     }
 }
 
