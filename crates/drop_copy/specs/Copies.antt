@@ -5,7 +5,7 @@ use Rattle.venue_words.specs.declared.config.Config.{Config}
 use Rattle.venue_words.specs.declared.report.Report.{Report}
 use Rattle.venue_words.specs.Journals.{reports_of}
 use Rattle.fix_write.specs.Fields.{field}
-use Rattle.exec_reports.specs.Bodies.{body_of, kind_code}
+use Rattle.exec_reports.specs.Bodies.{body_of, kind_of}
 use Rattle.session_core.specs.declared.message.Message.{Message}
 use Rattle.session_core.specs.Bodies.{message}
 use Rattle.member_gate.specs.Answering.{name_at}
@@ -18,7 +18,7 @@ copy_body report symbol member = body_of report symbol member ++ field COPIED_ME
 
 -- the copy of a report as a message: its type is the report's
 abbrev pub copy_of : List ℕ → List ℕ → Report → Message
-copy_of member symbol report = message (kind_code report) (copy_body report symbol member)
+copy_of member symbol report = message (kind_of report) (copy_body report symbol member)
 
 -- the member's reports among the positions from one on to before another one
 abbrev pub reports_between : ℕ → ℕ → ℕ → List Report → List Report

@@ -7,7 +7,8 @@ ghost use Rattle.drop_copy.specs.Answering.{refuses};
 ghost use Rattle.drop_copy.specs.Desks.{AreUnread};
 
 use fix_frames::{Framer, Next};
-use member_gate::business::{BUSINESS_REJECT, business_body};
+use fix_write::MessageType;
+use member_gate::business::business_body;
 use session_core::lookup::text_in;
 use session_core::tags::MSG_TYPE;
 use session_core::{Request, Session, Turn};
@@ -29,7 +30,7 @@ fn refuse(
 {
     let kind = text_in(MSG_TYPE, request.fields.as_slice());
     let body = business_body(alloc, request.number, kind)?;
-    session.send(BUSINESS_REJECT, &body, moment)
+    session.send(MessageType::BusinessReject, &body, moment)
 }
 
 /// Adds what a turn sends, and the answer to the message that it hands out, if any. After a refusal some of them may be added.

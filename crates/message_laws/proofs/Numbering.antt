@@ -6,6 +6,8 @@ use Rattle.venue_words.specs.declared.refusal.NoMemory.{NoMemory}
 use Rattle.fix_fields.specs.declared.field.Field.{Field}
 use Rattle.fix_fields.specs.declared.field.FieldFault.{FieldFault}
 use Rattle.fix_fields.specs.Fields.{split}
+use Rattle.fix_write.specs.declared.message_type.MessageType.{MessageType}
+use Rattle.fix_write.specs.MessageTypes.{byte_of}
 use Rattle.session_core.specs.declared.message.Kept.{Kept}
 use Rattle.session_core.specs.declared.message.Message.{Message}
 use Rattle.session_core.specs.declared.plan.Plan.{Plan}
@@ -30,7 +32,7 @@ use Rattle.message_laws.proofs.Planning.{IsWithin, Facts, plan_facts, tick_facts
 
 pub is_new : (member : List ℕ) (moment : ℤ) (number : ℕ) (message : Message) → IsNew member number (new_frame member moment number message)
 unfolding new_frame
-is_new member moment number message = record { kind = message.kind; moment = moment; body = message.body; frame_is = refl }
+is_new member moment number message = record { kind = byte_of message.kind; moment = moment; body = message.body; frame_is = refl }
 
 new_count : (member : List ℕ) (moment : ℤ) (number : ℕ) (messages : List Message) → Counts member number (new_frames member moment number messages) (number + length messages)
 unfolding new_frames
@@ -65,7 +67,7 @@ resent_below next number (None ∷ entries) some room =
 is_again : (member : List ℕ) (moment : ℤ) (next : ℕ) (item : Resent) → IsBelow next item → IsAgain member next (resent_frame member moment item)
 unfolding old_frame gap_frame
 is_again member moment next (Again number kept) below =
-    record { kind = kept.message.kind; number = number; moment = moment; first = kept.moment; body = kept.message.body; some = below.0; before = below.1; frame_is = refl }
+    record { kind = byte_of kept.message.kind; number = number; moment = moment; first = kept.moment; body = kept.message.body; some = below.0; before = below.1; frame_is = refl }
 is_again member moment next (Gap first end) below =
     record { kind = _; number = first; moment = moment; first = moment; body = _; some = below.0; before = below.1; frame_is = refl }
 
@@ -175,10 +177,10 @@ send_counts machine messages moment =
     plain_counts machine (on_send machine messages moment)
     (subst (λ (n : ℕ). Counts machine.member (length machine.sent + 1) (new_frames machine.member moment (length machine.sent + 1) messages) n) count (new_count machine.member moment (length machine.sent + 1) messages))
 
-reject_counts : (machine : Machine) (number kind tag reason : ℕ) (moment : ℤ) → IsCounted machine false (on_reject machine number kind tag reason moment)
+reject_counts : (machine : Machine) (number : ℕ) (kind : MessageType) (tag reason : ℕ) (moment : ℤ) → IsCounted machine false (on_reject machine number kind tag reason moment)
 unfolding on_reject
 reject_counts machine number kind tag reason moment =
-    plain_counts machine (on_reject machine number kind tag reason moment) (inl (is_new machine.member moment (length machine.sent + 1) (reject number tag (kind ∷ []) reason), omega (arith, length-append machine.sent (None ∷ []))))
+    plain_counts machine (on_reject machine number kind tag reason moment) (inl (is_new machine.member moment (length machine.sent + 1) (reject number tag (byte_of kind ∷ []) reason), omega (arith, length-append machine.sent (None ∷ []))))
 
 input_counts : (machine : Machine) (input : Input) → IsCounted machine (is_reset input) (outcome_of machine input)
 unfolding on_frame on_overlong on_clock

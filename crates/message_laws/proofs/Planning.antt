@@ -5,7 +5,8 @@ use Rattle.std.proofs.lemmas.Bool.{leb-true, ltb-false}
 use Rattle.std.proofs.lemmas.Bool.Decides.{nat_tests}
 use Rattle.fix_fields.specs.declared.field.Field.{Field}
 use Rattle.session_core.specs.declared.message.Message.{Message}
-use Rattle.session_core.specs.declared.message_types.TheConstants.{LOGON}
+use Rattle.fix_write.specs.declared.message_type.MessageType.{MessageType}
+use Rattle.fix_write.specs.declared.message_type.MessageType.TheVariants.{TestRequest, ResendRequest, SequenceReset, Heartbeat, Reject, Logout, Logon}
 use Rattle.session_core.specs.declared.tags.TheConstants.{RESET_SEQ_NUM_FLAG}
 use Rattle.session_core.specs.declared.plan.Span.{Span}
 use Rattle.session_core.specs.declared.plan.RequestHead.{RequestHead}
@@ -18,10 +19,11 @@ use Rattle.fix_write.specs.declared.tags.TheConstants.{SENDER_COMP_ID, TARGET_CO
 use Rattle.session_core.specs.Logon.{next_of_logon, takes_logon, on_logon, before_logon}
 use Rattle.session_core.specs.declared.state.EndCause.TheVariants.{NotLogon}
 use Rattle.session_core.specs.State.{is_up, is_up_phase, ended}
-use Rattle.session_core.specs.Plan.{says, stays, hands_out, sends_again}
+use Rattle.session_core.specs.Plan.{says, hands_out, sends_again}
 use Rattle.session_core.specs.Answers.{logs_out, drops, rejects, unless_failed, drops_wrong_name}
 use Rattle.session_core.specs.Resend.{last_of, resends, on_resend_request, then_asks_again}
-use Rattle.session_core.specs.Sequence.{sets_next, on_reset, on_logout, too_low, too_early, answers_test, by_type, in_turn, by_number, when_up}
+use Rattle.session_core.specs.Sequence.{sets_next, on_reset, on_logout, too_low, resends_early, too_early, answers_test, by_type, in_turn, by_number, when_up}
+use Rattle.message_laws.specs.Sessions.{is_reset_logon}
 use Rattle.session_core.specs.Cases.{on_message, on_too_long, on_tick}
 
 -- numbers from the first to the last, of which so many were sent
@@ -123,10 +125,16 @@ low_facts : (base sent : ℕ) (state : State) (message : _) → base ≤ state.n
 unfolding too_low logs_out
 low_facts base sent state message low = search (rules, choose, says_facts)
 
-early_facts : (base sent : ℕ) (state : State) (message : _) → base ≤ state.next_in → Facts base sent false (too_early state message sent)
+resends_early_facts : (base sent : ℕ) (state : State) (message : _) → base ≤ state.next_in → Facts base sent false (resends_early state message sent)
+unfolding resends_early
+resends_early_facts base sent state message low =
+    search (rules, choose, says_facts, asks_again_facts, resend_request_facts)
+
+early_facts : (kind : MessageType) (base sent : ℕ) (state : State) (message : _) → base ≤ state.next_in → Facts base sent false (too_early kind state message sent)
 unfolding too_early
-early_facts base sent state message low =
-    search (rules, choose, says_facts, logout_facts, asks_again_facts, resend_request_facts)
+early_facts Logout base sent state message low = logout_facts base sent state message low
+early_facts ResendRequest base sent state message low = resends_early_facts base sent state message low
+early_facts _ base sent state message low = says_facts base sent false state _ low refl
 
 -- the message that was to come, where the state has the number behind it
 hands_out_facts : (base sent : ℕ) (state : State) (message : _) (plan : Plan) → plan ≡ hands_out state message → message.number ≡ base → state.next_in ≡ base + 1 → Facts base sent false plan
@@ -144,21 +152,33 @@ answers_facts : (base sent : ℕ) (state : State) (message : _) → base ≤ sta
 unfolding answers_test
 answers_facts base sent state message low = search (rules, says_facts)
 
-type_facts : (base sent : ℕ) (state : State) (message : _) (plan : Plan) → plan ≡ by_type state message sent → message.number ≡ base → state.next_in ≡ base + 1 → Facts base sent false plan
+same_facts : (base sent : ℕ) (plan other : Plan) → plan ≡ other → Facts base sent false other → Facts base sent false plan
+same_facts base sent plan other is facts = subst (λ (p : Plan). Facts base sent false p) (sym is) facts
+
+type_facts : (kind : MessageType) (base sent : ℕ) (state : State) (message : _) (plan : Plan) → plan ≡ by_type kind state message sent → message.number ≡ base → state.next_in ≡ base + 1 → Facts base sent false plan
 unfolding by_type logs_out
-type_facts base sent state message plan is own next =
-    let low : base ≤ state.next_in = omega arith in
-    let least : base ≤ message.number + 1 = omega arith in
-    let out = hands_out_facts base sent state message (hands_out state message) refl own next in
-    let facts : Facts base sent false (by_type state message sent) = search (rules, choose, says_facts, answers_facts, resend_request_facts, sets_facts, rejects_facts, out) depth 12 in
-    subst (λ (p : Plan). Facts base sent false p) (sym is) facts
+type_facts Heartbeat base sent state message plan is own next =
+    same_facts base sent plan _ is (says_facts base sent false state [] (omega arith) refl)
+type_facts Reject base sent state message plan is own next =
+    same_facts base sent plan _ is (says_facts base sent false state [] (omega arith) refl)
+type_facts TestRequest base sent state message plan is own next =
+    same_facts base sent plan _ is (answers_facts base sent state message (omega arith))
+type_facts ResendRequest base sent state message plan is own next =
+    same_facts base sent plan _ is (resend_request_facts base sent state message (omega arith))
+type_facts SequenceReset base sent state message plan is own next =
+    same_facts base sent plan _ is (sets_facts base sent state message (message.number + 1) (omega arith) (omega arith))
+type_facts Logout base sent state message plan is own next =
+    same_facts base sent plan _ is (says_facts base sent false _ _ (omega arith) refl)
+type_facts Logon base sent state message plan is own next =
+    same_facts base sent plan _ is (rejects_facts base sent state message _ _ (omega arith))
+type_facts _ base sent state message plan is own next = hands_out_facts base sent state message plan is own next
 
 turn_facts : (base sent : ℕ) (state : State) (message : _) (plan : Plan) → plan ≡ in_turn state message sent → message.number ≡ base → state.next_in ≡ base + 1 → Facts base sent false plan
 unfolding in_turn
 turn_facts base sent state message plan is own next =
     let low : base ≤ state.next_in = omega arith in
     let out = hands_out_facts base sent state message (hands_out state message) refl own next in
-    let typed = type_facts base sent state message (by_type state message sent) refl own next in
+    let typed = type_facts message.kind base sent state message (by_type message.kind state message sent) refl own next in
     let facts : Facts base sent false (in_turn state message sent) = search (rules, choose, unless_failed_facts, out, typed) in
     subst (λ (p : Plan). Facts base sent false p) (sym is) facts
 
@@ -169,10 +189,10 @@ number_facts : (sent : ℕ) (state : State) (message : _) → Facts state.next_i
 unfolding by_number
 number_facts sent state message =
     let low : state.next_in ≤ state.next_in = omega arith in
-    choose state.next_in sent false (ltb message.number state.next_in) (too_low state message) (cond (ltb state.next_in message.number) (too_early state message sent) (in_turn (record state { next_in = message.number + 1 }) message sent))
+    choose state.next_in sent false (ltb message.number state.next_in) (too_low state message) (cond (ltb state.next_in message.number) (too_early message.kind state message sent) (in_turn (record state { next_in = message.number + 1 }) message sent))
     (λ _. low_facts state.next_in sent state message low)
-    (λ not_low. choose state.next_in sent false (ltb state.next_in message.number) (too_early state message sent) (in_turn (record state { next_in = message.number + 1 }) message sent)
-    (λ _. early_facts state.next_in sent state message low)
+    (λ not_low. choose state.next_in sent false (ltb state.next_in message.number) (too_early message.kind state message sent) (in_turn (record state { next_in = message.number + 1 }) message sent)
+    (λ _. early_facts message.kind state.next_in sent state message low)
     (λ not_early.
     let own : message.number ≡ state.next_in = same_number message.number state.next_in not_low not_early in
     turn_facts state.next_in sent (record state { next_in = message.number + 1 }) message (in_turn (record state { next_in = message.number + 1 }) message sent) refl own (ap (λ (n : ℕ). n + 1) own)))
@@ -205,47 +225,44 @@ logon_facts : (base sent : ℕ) (state : State) (message : _) → base ≤ state
 unfolding on_logon logs_out
 logon_facts base sent state message low least = search (rules, choose, says_facts, none_again, taken_facts)
 
-before_facts : (base sent : ℕ) (state : State) (message : _) → base ≤ state.next_in → (cap : ℕ) → cap ≡ next_of_logon state message → (eqb message.kind LOGON ≡ true → base ≤ cap) → Facts base sent (eqb message.kind LOGON && is_yes RESET_SEQ_NUM_FLAG message.fields) (before_logon state message)
+before_facts : (kind : MessageType) (base sent : ℕ) (state : State) (message : _) → base ≤ state.next_in → (kind ≡ Logon → base ≤ next_of_logon state message) → Facts base sent (is_reset_logon kind message.fields) (before_logon kind state message)
 unfolding before_logon
-before_facts base sent state message low cap is least =
-    elim (eqb message.kind LOGON) as (λ b. (eqb message.kind LOGON ≡ b) → Facts base sent (b && is_yes RESET_SEQ_NUM_FLAG message.fields) (cond b (on_logon state message) (stays (ended NotLogon state)))) [
-      | true ↦ λ e. logon_facts base sent state message low (let at : base ≤ cap = least e in omega arith)
-      | false ↦ λ e. says_facts base sent false (ended NotLogon state) [] low refl
-    ] refl
+before_facts Logon base sent state message low least = logon_facts base sent state message low (least refl)
+before_facts _ base sent state message low least = says_facts base sent false (ended NotLogon state) [] low refl
 
 -- ---- every message
 
 -- whether a message asks a session that is not up to begin its numbers again
 abbrev pub asked_again : State → List Field → Bool
-asked_again state fields = not (is_up state) && ((eqb (kind_of fields) LOGON) && is_yes RESET_SEQ_NUM_FLAG fields)
+asked_again state fields = not (is_up state) && is_reset_logon (kind_of fields) fields
 
 -- a session that is up, or not yet
-in_phase : (base sent : ℕ) (state : State) (message : _) (flag : Bool) → (is_up state ≡ true → Facts base sent false (when_up state message sent)) → (is_up state ≡ false → Facts base sent flag (before_logon state message)) → Facts base sent (not (is_up state) && flag) (cond (is_up state) (when_up state message sent) (before_logon state message))
+in_phase : (base sent : ℕ) (state : State) (message : _) (flag : Bool) → (is_up state ≡ true → Facts base sent false (when_up state message sent)) → (is_up state ≡ false → Facts base sent flag (before_logon message.kind state message)) → Facts base sent (not (is_up state) && flag) (cond (is_up state) (when_up state message sent) (before_logon message.kind state message))
 in_phase base sent state message flag up before =
-    elim (is_up state) as (λ b. (is_up state ≡ b) → Facts base sent (not b && flag) (cond b (when_up state message sent) (before_logon state message))) [
+    elim (is_up state) as (λ b. (is_up state ≡ b) → Facts base sent (not b && flag) (cond b (when_up state message sent) (before_logon message.kind state message))) [
       | true ↦ λ e. up e
       | false ↦ λ e. before e
     ] refl
 
-message_facts : (base : ℕ) (member : List ℕ) (sent number : ℕ) (state : State) (fields : List Field) → base ≤ state.next_in → (is_up state ≡ true → base ≡ state.next_in) → (is_up state ≡ false → eqb (kind_of fields) LOGON ≡ true → base ≤ next_of_logon state (incoming number fields)) → Facts base sent (asked_again state fields) (on_message member sent state (incoming number fields))
+message_facts : (base : ℕ) (member : List ℕ) (sent number : ℕ) (state : State) (fields : List Field) → base ≤ state.next_in → (is_up state ≡ true → base ≡ state.next_in) → (is_up state ≡ false → kind_of fields ≡ Logon → base ≤ next_of_logon state (incoming number fields)) → Facts base sent (asked_again state fields) (on_message member sent state (incoming number fields))
 unfolding on_message
 message_facts base member sent number state fields low same least =
     let again = asked_again state fields in
     let message = incoming number fields in
     choose base sent again (not (is_value SENDER_COMP_ID member fields)) (drops_wrong_name state message SENDER_COMP_ID)
-    (cond (not (is_value TARGET_COMP_ID venue fields)) (drops_wrong_name state message TARGET_COMP_ID) (cond (is_up state) (when_up state message sent) (before_logon state message)))
+    (cond (not (is_value TARGET_COMP_ID venue fields)) (drops_wrong_name state message TARGET_COMP_ID) (cond (is_up state) (when_up state message sent) (before_logon message.kind state message)))
     (λ _. wrong_name_facts base sent again state message SENDER_COMP_ID low)
-    (λ _. choose base sent again (not (is_value TARGET_COMP_ID venue fields)) (drops_wrong_name state message TARGET_COMP_ID) (cond (is_up state) (when_up state message sent) (before_logon state message))
+    (λ _. choose base sent again (not (is_value TARGET_COMP_ID venue fields)) (drops_wrong_name state message TARGET_COMP_ID) (cond (is_up state) (when_up state message sent) (before_logon message.kind state message))
     (λ _. wrong_name_facts base sent again state message TARGET_COMP_ID low)
-    (λ _. in_phase base sent state message ((eqb (kind_of fields) LOGON) && is_yes RESET_SEQ_NUM_FLAG fields)
+    (λ _. in_phase base sent state message (is_reset_logon (kind_of fields) fields)
     (λ up. subst (λ (n : ℕ). Facts n sent false (when_up state message sent)) (sym (same up)) (up_facts sent state message))
-    (λ down. before_facts base sent state message low (next_of_logon state message) refl (least down))))
+    (λ down. before_facts (kind_of fields) base sent state message low (least down))))
 
 any_facts : (base sent : ℕ) (again : Bool) (state : State) (cause : _) (text : List ℕ) → base ≤ state.next_in → Facts base sent again (drops state cause text)
 unfolding drops logs_out
 any_facts base sent again state cause text low = search (rules, choose, says_facts, none_again)
 
-pub plan_facts : (base : ℕ) (machine : Machine) (state : State) (fields : List Field) (number : Option ℕ) → base ≤ state.next_in → (is_up state ≡ true → base ≡ state.next_in) → (is_up state ≡ false → eqb (kind_of fields) LOGON ≡ true → (n : ℕ) → base ≤ next_of_logon state (incoming n fields)) → Facts base (length machine.sent) (asked_again state fields) (plan_for machine state fields number)
+pub plan_facts : (base : ℕ) (machine : Machine) (state : State) (fields : List Field) (number : Option ℕ) → base ≤ state.next_in → (is_up state ≡ true → base ≡ state.next_in) → (is_up state ≡ false → kind_of fields ≡ Logon → (n : ℕ) → base ≤ next_of_logon state (incoming n fields)) → Facts base (length machine.sent) (asked_again state fields) (plan_for machine state fields number)
 plan_facts base machine state fields None low same least = any_facts base (length machine.sent) (asked_again state fields) state _ _ low
 plan_facts base machine state fields (Some number) low same least =
     message_facts base machine.member (length machine.sent) number state fields low same (λ down e. least down e number)

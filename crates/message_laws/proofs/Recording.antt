@@ -3,6 +3,7 @@ use Rattle.std.proofs.Common.{◌≡◌, ℕ, zero, suc, ◌+◌, ◌-◌, ◌<�
 use Rattle.std.specs.Prelude.{ℤ, map, replicate}
 use Rattle.std.proofs.lemmas.Bool.{cases_lt}
 use Rattle.std.proofs.lemmas.List.{append-nil, length-take-le}
+use Rattle.fix_write.specs.MessageTypes.{byte_of}
 use Rattle.session_core.specs.declared.message.Kept.{Kept}
 use Rattle.session_core.specs.declared.message.Message.{Message}
 use Rattle.session_core.specs.Frames.{new_frame, new_frames, kept, all_kept}
@@ -136,7 +137,7 @@ frames_cover member now ledger first end [] covers = covers
 frames_cover member now ledger first end (Again number kept ∷ items) covers =
     let same : number ≡ first = covers.0 in
     inl (
-      record { kind = kept.message.kind; first = kept.moment; body = kept.message.body; application = covers.1; was = covers.2; is = ap (λ (n : ℕ). old_frame member now n kept) same },
+      record { kind = byte_of kept.message.kind; first = kept.moment; body = kept.message.body; application = covers.1; was = covers.2; is = ap (λ (n : ℕ). old_frame member now n kept) same },
       frames_cover member now ledger (first + 1) end items covers.3,
     )
 frames_cover member now ledger first end (Gap from to ∷ items) covers =

@@ -6,6 +6,8 @@ use Rattle.venue_words.specs.declared.refusal.NoMemory.{NoMemory}
 use Rattle.fix_fields.specs.declared.field.Field.{Field}
 use Rattle.fix_fields.specs.declared.field.FieldFault.{FieldFault}
 use Rattle.fix_fields.specs.Fields.{split}
+use Rattle.fix_write.specs.declared.message_type.MessageType.{MessageType}
+use Rattle.fix_write.specs.MessageTypes.{byte_of}
 use Rattle.session_core.specs.declared.message.Kept.{Kept}
 use Rattle.session_core.specs.declared.message.Message.{Message}
 use Rattle.session_core.specs.declared.plan.Plan.{Plan}
@@ -142,12 +144,12 @@ send_records machine ledger messages moment r =
     new_records machine ledger (entries true (new_frames machine.member moment number messages)) true (on_send machine messages moment) (all_kept moment messages) r refl refl
     (adds_new machine.member true moment number messages ledger (omega arith)) (remembers_kept machine.member moment number messages)
 
-reject_records : (machine : Machine) (ledger : List Entry) (number kind tag reason : ℕ) (moment : ℤ) → Remembers machine.member 1 machine.sent ledger → IsRecorded machine ledger false false (on_reject machine number kind tag reason moment)
+reject_records : (machine : Machine) (ledger : List Entry) (number : ℕ) (kind : MessageType) (tag reason : ℕ) (moment : ℤ) → Remembers machine.member 1 machine.sent ledger → IsRecorded machine ledger false false (on_reject machine number kind tag reason moment)
 unfolding on_reject
 reject_records machine ledger number kind tag reason moment r =
     let next = length machine.sent + 1 in
     let long = remembers_long machine.member 1 machine.sent ledger r in
-    let own = reject number tag (kind ∷ []) reason in
+    let own = reject number tag (byte_of kind ∷ []) reason in
     let frame = new_frame machine.member moment next own in
     let place : next ≡ length ledger + 1 = omega arith in
     new_records machine ledger (record { application = false; frame = frame } ∷ []) false (on_reject machine number kind tag reason moment) (None ∷ []) r refl refl

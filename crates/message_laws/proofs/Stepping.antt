@@ -1,10 +1,11 @@
 -- What every input keeps.
-use Rattle.std.proofs.Common.{◌≡◌, ℕ, ◌+◌, ◌≤◌, Bool, true, false, ◌&&◌, cond, eqb, List, [], ◌∷◌, ◌++◌, length, Option, Some, None, Result, Ok, Err, refl, sym, ◌∙◌, ap, subst, arith}
+use Rattle.std.proofs.Common.{◌≡◌, ℕ, ◌+◌, ◌≤◌, Bool, true, false, cond, eqb, List, [], ◌∷◌, ◌++◌, length, Option, Some, None, Result, Ok, Err, refl, sym, ◌∙◌, ap, subst, arith}
 use Rattle.std.specs.Prelude.{ℤ, option_map}
 use Rattle.fix_fields.specs.declared.field.Field.{Field}
 use Rattle.fix_fields.specs.declared.field.FieldFault.{FieldFault}
 use Rattle.fix_fields.specs.Fields.{split}
-use Rattle.session_core.specs.declared.message_types.TheConstants.{LOGON}
+use Rattle.fix_write.specs.declared.message_type.MessageType.{MessageType}
+use Rattle.fix_write.specs.declared.message_type.MessageType.TheVariants.{Logon}
 use Rattle.session_core.specs.declared.tags.TheConstants.{RESET_SEQ_NUM_FLAG}
 use Rattle.session_core.specs.declared.message.Request.{Request}
 use Rattle.session_core.specs.declared.plan.Plan.{Plan}
@@ -18,7 +19,7 @@ use Rattle.session_core.specs.Lookup.{is_yes, kind_of, message_number}
 use Rattle.session_core.specs.State.{is_up, is_over, heard}
 use Rattle.session_core.specs.Machine.{Machine, Outcome, carried_out, sent_now, replies_of, request_of, plan_for, on_fields, on_frame, on_clock, on_overlong, on_send, on_reject}
 use Rattle.session_core.specs.Runs.{outcome_of, without_memory}
-use Rattle.message_laws.specs.Sessions.{asks_reset, is_reset, ExpectedStaysOrRises, number_of_request, numbers_handed_out, Ascend, HandedOutOnce}
+use Rattle.message_laws.specs.Sessions.{is_reset_logon, asks_reset, is_reset, ExpectedStaysOrRises, number_of_request, numbers_handed_out, Ascend, HandedOutOnce}
 use Rattle.message_laws.proofs.Planning.{Facts, asked_again, plan_facts, tick_facts, too_long_facts}
 
 -- the number that is to come does not fall, and what is handed out has that number and raises it
@@ -50,10 +51,9 @@ carried_keeps machine moment fields sent again plan f =
 quiet_keeps : (machine : Machine) (outcome : Outcome) → outcome.machine.state.next_in ≡ machine.state.next_in → outcome.turn.request ≡ None → Keeps machine outcome
 quiet_keeps machine outcome same none = record { next = omega arith; request = λ request h. absurd (let x : None ≡ Some request = sym none ∙ h in cc) }
 
-no_reset_next : (state : State) (fields : List Field) (kind flag : Bool) → (kind && flag) ≡ false → kind ≡ true → state.next_in ≤ cond flag 1 state.next_in
-no_reset_next state fields true true h e = absurd (cc)
-no_reset_next state fields true false h e = omega arith
-no_reset_next state fields false flag h e = absurd (cc)
+no_reset_next : (state : State) (fields : List Field) (kind : MessageType) → kind ≡ Logon → is_reset_logon kind fields ≡ false → state.next_in ≤ cond (is_yes RESET_SEQ_NUM_FLAG fields) 1 state.next_in
+no_reset_next state fields kind is h =
+    let none : is_yes RESET_SEQ_NUM_FLAG fields ≡ false = rw is at h in rw none (omega arith)
 
 fields_keep : (machine : Machine) (moment : ℤ) (found : Result (List Field) FieldFault) → asks_reset found ≡ false → Keeps machine (on_fields machine moment found)
 fields_keep machine moment (Err fault) h = quiet_keeps machine _ refl refl
@@ -61,7 +61,7 @@ fields_keep machine moment (Ok fields) h =
     let state = heard moment machine.state in
     carried_keeps machine moment fields (length machine.sent) (asked_again state fields) (plan_for machine state fields (message_number fields))
     (plan_facts machine.state.next_in machine state fields (message_number fields) (omega arith) (λ _. refl)
-    (λ down e n. no_reset_next machine.state fields (eqb (kind_of fields) LOGON) (is_yes RESET_SEQ_NUM_FLAG fields) h e))
+    (λ down e n. no_reset_next machine.state fields (kind_of fields) e h))
 
 choose_keeps : (machine : Machine) (b : Bool) (x y : Outcome) → Keeps machine x → Keeps machine y → Keeps machine (cond b x y)
 choose_keeps machine true x y f g = f

@@ -15,7 +15,9 @@ use Rattle.session_core.specs.declared.plan.Span.{Span}
 use Rattle.session_core.specs.declared.state.Phase.{Phase}
 use Rattle.session_core.specs.declared.state.Phase.TheVariants.{New, Up, Ended}
 use Rattle.session_core.specs.declared.state.State.{State}
-use Rattle.session_core.specs.declared.message_types.TheConstants.{HEARTBEAT, RESEND_REQUEST, REJECT, SEQUENCE_RESET, LOGOUT}
+use Rattle.fix_write.specs.declared.message_type.MessageType.{MessageType}
+use Rattle.fix_write.specs.declared.message_type.MessageType.TheVariants.{Heartbeat, TestRequest, ResendRequest, Reject, SequenceReset, Logout, Logon}
+use Rattle.fix_write.specs.MessageTypes.{byte_of, is_order}
 use Rattle.session_core.specs.declared.tags.TheConstants.{BEGIN_SEQ_NO, END_SEQ_NO}
 use Rattle.session_core.specs.Answers.{logs_out, rejects, unless_failed}
 use Rattle.session_core.specs.Cases.{on_message}
@@ -23,7 +25,6 @@ use Rattle.session_core.specs.Content.{content_of}
 use Rattle.session_core.specs.Frames.{new_frame, new_frames}
 use Rattle.session_core.specs.Lookup.{message_number, kind_of, number_or_zero}
 use Rattle.session_core.specs.Machine.{Machine, Outcome, carried_out, replies_of, incoming, plan_for, on_frame}
-use Rattle.session_core.specs.MessageTypes.{is_order}
 use Rattle.session_core.specs.Bodies.{gap_body, logout, test_answer}
 use Rattle.session_core.specs.Plan.{hands_out, sends_again, stays}
 use Rattle.session_core.specs.Resend.{resends, on_resend_request}
@@ -88,7 +89,7 @@ failed_is_rejected machine frame moment fields failed is other fails =
 
 -- no message is a Reject
 abbrev NoRejects : List Message → Type 0
-NoRejects messages = AllByRecursion (λ (message : Message). message.kind ≡ REJECT → ⊥) messages
+NoRejects messages = AllByRecursion (λ (message : Message). byte_of message.kind ≡ byte_of Reject → ⊥) messages
 
 -- a plan is a Reject alone, or has none
 record IsReject (state : State) (number : ℕ) (fields : List Field) (plan : Plan) : Type 0 where
@@ -114,28 +115,34 @@ resend_reject : (state : State) (number sent : ℕ) (fields : List Field) → Is
 unfolding on_resend_request resends
 resend_reject state number sent fields = search (rules, either, is_reject, again_none)
 
-kind_apart : (kind : ℕ) → eqb kind REJECT ≡ false → kind ≡ REJECT → ⊥
-kind_apart kind apart is = eqb-false kind REJECT apart is
+kind_apart : (kind : MessageType) → eqb (byte_of kind) (byte_of Reject) ≡ false → byte_of kind ≡ byte_of Reject → ⊥
+kind_apart kind apart is = eqb-false (byte_of kind) (byte_of Reject) apart is
 
 test_reject : (state : State) (number : ℕ) (fields : List Field) → IsReject state number fields (answers_test state (incoming number fields))
-unfolding answers_test test_answer
-test_reject state number fields = record { way = inr (kind_apart HEARTBEAT refl, tt) }
+unfolding answers_test test_answer byte_of
+test_reject state number fields = record { way = inr (kind_apart Heartbeat refl, tt) }
 
 logout_reject : (state : State) (number : ℕ) (fields : List Field) (cause : _) (text : List ℕ) → IsReject state number fields (logs_out state cause text)
-unfolding logs_out logout
-logout_reject state number fields cause text = record { way = inr (kind_apart LOGOUT refl, tt) }
+unfolding logs_out logout byte_of
+logout_reject state number fields cause text = record { way = inr (kind_apart Logout refl, tt) }
 
 sets_reject : (state : State) (number least : ℕ) (fields : List Field) → IsReject state number fields (sets_next state (incoming number fields) least)
 unfolding sets_next
 sets_reject state number least fields = search (rules, either, is_reject, stays_none)
 
-type_reject : (state : State) (number sent : ℕ) (fields : List Field) → IsReject state number fields (by_type state (incoming number fields) sent)
+type_reject : (kind : MessageType) (state : State) (number sent : ℕ) (fields : List Field) → IsReject state number fields (by_type kind state (incoming number fields) sent)
 unfolding by_type
-type_reject state number sent fields =
-    search (rules, either, is_reject, test_reject, resend_reject, sets_reject, logout_reject, stays_none, out_none) depth 12
+type_reject Heartbeat state number sent fields = stays_none state state number fields
+type_reject Reject state number sent fields = stays_none state state number fields
+type_reject TestRequest state number sent fields = test_reject state number fields
+type_reject ResendRequest state number sent fields = resend_reject state number sent fields
+type_reject SequenceReset state number sent fields = sets_reject state number (number + 1) fields
+type_reject Logout state number sent fields = logout_reject state number fields _ _
+type_reject Logon state number sent fields = is_reject state number fields _ _
+type_reject _ state number sent fields = out_none state number fields
 
-unless_reject : (state : State) (number sent : ℕ) (fields : List Field) (failed : Option FailedCheck) → IsReject state number fields (unless_failed state (incoming number fields) failed (by_type state (incoming number fields) sent))
-unless_reject state number sent fields None = type_reject state number sent fields
+unless_reject : (state : State) (number sent : ℕ) (fields : List Field) (failed : Option FailedCheck) → IsReject state number fields (unless_failed state (incoming number fields) failed (by_type (kind_of fields) state (incoming number fields) sent))
+unless_reject state number sent fields None = type_reject (kind_of fields) state number sent fields
 unless_reject state number sent fields (Some failed) = is_reject state number fields failed.tag failed.reason
 
 turn_reject : (state : State) (number sent : ℕ) (fields : List Field) → IsReject state number fields (in_turn state (incoming number fields) sent)
@@ -146,15 +153,15 @@ new_no_reject : (member : List ℕ) (moment : ℤ) (number : ℕ) (messages : Li
 unfolding new_frames new_frame
 new_no_reject member moment number [] none = tt
 new_no_reject member moment number (message ∷ messages) none =
-    (record { kind = message.kind; number = number; moment = moment; first = None; body = message.body; frame_is = refl; other = λ _ is. none.0 is }, new_no_reject member moment (number + 1) messages none.1)
+    (record { kind = byte_of message.kind; number = number; moment = moment; first = None; body = message.body; frame_is = refl; other = λ _ is. none.0 is }, new_no_reject member moment (number + 1) messages none.1)
 
 again_no_reject : (member : List ℕ) (moment : ℤ) (items : List Resent) (frames : List (List ℕ)) → AllByRecursion (IsNoReject member) frames → AllByRecursion (IsNoReject member) (map (resent_frame member moment) items ++ frames)
 unfolding old_frame gap_frame
 again_no_reject member moment [] frames all = all
 again_no_reject member moment (Again number kept ∷ items) frames all =
-    (record { kind = kept.message.kind; number = number; moment = moment; first = Some kept.moment; body = kept.message.body; frame_is = refl; other = λ e _. absurd (let x : Some kept.moment ≡ None = e in cc) }, again_no_reject member moment items frames all)
+    (record { kind = byte_of kept.message.kind; number = number; moment = moment; first = Some kept.moment; body = kept.message.body; frame_is = refl; other = λ e _. absurd (let x : Some kept.moment ≡ None = e in cc) }, again_no_reject member moment items frames all)
 again_no_reject member moment (Gap from to ∷ items) frames all =
-    (record { kind = SEQUENCE_RESET; number = from; moment = moment; first = Some moment; body = gap_body to; frame_is = refl; other = λ e _. absurd (let x : Some moment ≡ None = e in cc) }, again_no_reject member moment items frames all)
+    (record { kind = byte_of SequenceReset; number = from; moment = moment; first = Some moment; body = gap_body to; frame_is = refl; other = λ e _. absurd (let x : Some moment ≡ None = e in cc) }, again_no_reject member moment items frames all)
 
 span_no_reject : (machine : Machine) (moment : ℤ) (span : Option Span) (frames : List (List ℕ)) → AllByRecursion (IsNoReject machine.member) frames → AllByRecursion (IsNoReject machine.member) (frames_of_span machine.member moment machine.sent span ++ frames)
 span_no_reject machine moment None frames all = all
@@ -195,8 +202,8 @@ order_is_handed_out machine frame moment fields is order =
 
 -- ---- a range that is asked
 
-resends_in_turn : (machine : Machine) (moment : ℤ) (fields : List Field) → kind_of fields ≡ RESEND_REQUEST → failed_of RESEND_REQUEST fields ≡ None → in_turn (taken machine moment) (incoming machine.state.next_in fields) (length machine.sent) ≡ on_resend_request (taken machine moment) (incoming machine.state.next_in fields) (length machine.sent)
-unfolding in_turn by_type
+resends_in_turn : (machine : Machine) (moment : ℤ) (fields : List Field) → kind_of fields ≡ ResendRequest → failed_of ResendRequest fields ≡ None → in_turn (taken machine moment) (incoming machine.state.next_in fields) (length machine.sent) ≡ on_resend_request (taken machine moment) (incoming machine.state.next_in fields) (length machine.sent)
+unfolding in_turn by_type is_order
 resends_in_turn machine moment fields kind passes = rw (kind, passes) refl
 
 -- the range is within what was sent

@@ -2,8 +2,9 @@
 use Rattle.std.specs.Prelude.{◌≡◌, ℕ, ◌+◌, ◌-◌, ◌<◌, ◌≤◌, Bool, true, false, if◌then◌else◌, List, [], ◌∷◌, ◌++◌, length, slice_index_or, Some, None, Result, Ok, Err, ◌⊎◌, ℤ}
 use Rattle.venue_words.specs.Limits.{venue}
 use Rattle.venue_words.specs.declared.refusal.NoMemory.{NoMemory}
+use Rattle.fix_write.specs.declared.message_type.MessageType.TheVariants.{SequenceReset}
 use Rattle.fix_write.specs.Framing.{frame_of}
-use Rattle.session_core.specs.declared.message_types.TheConstants.{SEQUENCE_RESET}
+use Rattle.fix_write.specs.MessageTypes.{byte_of}
 use Rattle.session_core.specs.declared.runs.Input.{Input}
 use Rattle.session_core.specs.declared.runs.Input.TheVariants.{Connection, Frame, TooLong, Tick, Send, Reject}
 use Rattle.session_core.specs.declared.turn.Turn.{Turn}
@@ -35,7 +36,7 @@ pub record IsSentAgain (member : List ℕ) (now : ℤ) (entry : Entry) (number :
 pub record FillsGap (member : List ℕ) (now : ℤ) (ledger : List Entry) (first end : ℕ) (frame : List ℕ) : Type 0 where
   pub order : first < end
   pub own : (number : ℕ) → first ≤ number → number < end → (entry_of ledger number).application ≡ false
-  pub is : frame ≡ frame_of SEQUENCE_RESET venue member first now (Some now) (gap_body end)
+  pub is : frame ≡ frame_of (byte_of SequenceReset) venue member first now (Some now) (gap_body end)
 
 -- frames that cover the numbers from the first up to before the last, each exactly once and in order
 abbrev pub Covers : List ℕ → ℤ → List Entry → ℕ → ℕ → List (List ℕ) → Type 0

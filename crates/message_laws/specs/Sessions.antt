@@ -1,11 +1,12 @@
 -- What a session expects and what it hands out, over every list of inputs.
-use Rattle.std.specs.Prelude.{◌≡◌, ℕ, ◌+◌, ◌≤◌, ◌==◌, Bool, false, ◌&&◌, List, [], ◌∷◌, ◌++◌, Option, Some, None, Result, Ok, Err}
+use Rattle.std.specs.Prelude.{◌≡◌, ℕ, ◌+◌, ◌≤◌, Bool, false, List, [], ◌∷◌, ◌++◌, Option, Some, None, Result, Ok, Err}
 use Rattle.std.specs.List.{AllByRecursion}
 use Rattle.venue_words.specs.declared.refusal.NoMemory.{NoMemory}
 use Rattle.fix_fields.specs.declared.field.Field.{Field}
 use Rattle.fix_fields.specs.declared.field.FieldFault.{FieldFault}
 use Rattle.fix_fields.specs.Fields.{split}
-use Rattle.session_core.specs.declared.message_types.TheConstants.{LOGON}
+use Rattle.fix_write.specs.declared.message_type.MessageType.{MessageType}
+use Rattle.fix_write.specs.declared.message_type.MessageType.TheVariants.{Logon}
 use Rattle.session_core.specs.declared.tags.TheConstants.{RESET_SEQ_NUM_FLAG}
 use Rattle.session_core.specs.declared.message.Request.{Request}
 use Rattle.session_core.specs.declared.runs.Input.{Input}
@@ -17,8 +18,12 @@ use Rattle.session_core.specs.Machine.{Machine}
 use Rattle.session_core.specs.Runs.{Follows}
 
 -- a Logon with ResetSeqNumFlag (141) Y
+abbrev pub is_reset_logon : MessageType → List Field → Bool
+is_reset_logon Logon fields = is_yes RESET_SEQ_NUM_FLAG fields
+is_reset_logon _ fields = false
+
 abbrev pub asks_reset : Result (List Field) FieldFault → Bool
-asks_reset (Ok fields) = (kind_of fields == LOGON) && is_yes RESET_SEQ_NUM_FLAG fields
+asks_reset (Ok fields) = is_reset_logon (kind_of fields) fields
 asks_reset (Err fault) = false
 
 abbrev pub is_reset : Input → Bool

@@ -1,20 +1,21 @@
 -- What a session does with one message that was to come.
-use Rattle.std.specs.Prelude.{◌≡◌, ℕ, ◌+◌, ◌<◌, ◌≤◌, ◌==◌, true, false, not, ◌&&◌, ◌||◌, nat_lt, if◌then◌else◌, List, [], ◌∷◌, ◌++◌, length, Option, Some, None, Ok, ◌⊎◌, ℤ}
+use Rattle.std.specs.Prelude.{◌≡◌, ℕ, ◌+◌, ◌<◌, ◌≤◌, ◌==◌, true, false, ◌||◌, nat_lt, if◌then◌else◌, List, [], ◌∷◌, ◌++◌, length, Option, Some, None, Ok, ◌⊎◌, ℤ}
 use Rattle.std.specs.List.{AllByRecursion}
 use Rattle.venue_words.specs.Limits.{venue}
 use Rattle.fix_fields.specs.declared.field.Field.{Field}
 use Rattle.fix_fields.specs.Fields.{split}
+use Rattle.fix_write.specs.declared.message_type.MessageType.TheVariants.{ResendRequest, Reject}
 use Rattle.fix_write.specs.declared.tags.TheConstants.{MSG_TYPE, SENDER_COMP_ID, TARGET_COMP_ID}
 use Rattle.fix_write.specs.Framing.{frame_of}
+use Rattle.fix_write.specs.MessageTypes.{byte_of, is_order}
 use Rattle.session_core.specs.declared.checks.FailedCheck.{FailedCheck}
 use Rattle.session_core.specs.declared.message.Kept.{Kept}
-use Rattle.session_core.specs.declared.message_types.TheConstants.{RESEND_REQUEST, REJECT, SEQUENCE_RESET}
-use Rattle.session_core.specs.declared.tags.TheConstants.{BEGIN_SEQ_NO, END_SEQ_NO, GAP_FILL_FLAG}
+use Rattle.session_core.specs.declared.tags.TheConstants.{BEGIN_SEQ_NO, END_SEQ_NO}
 use Rattle.session_core.specs.Bodies.{reject}
 use Rattle.session_core.specs.Content.{content_of}
 use Rattle.session_core.specs.Frames.{new_frame}
-use Rattle.session_core.specs.Lookup.{message_number, kind_of, is_value, is_yes, number_or_zero, text_in}
-use Rattle.session_core.specs.MessageTypes.{is_order}
+use Rattle.session_core.specs.Lookup.{message_number, kind_of, is_value, number_or_zero, text_in}
+use Rattle.session_core.specs.Sequence.{in_reset_mode}
 use Rattle.session_core.specs.Tables.{failed_of}
 use Rattle.session_core.specs.Machine.{Machine, Outcome, IsUp, on_frame}
 use Rattle.message_laws.specs.Ledgers.{Entry, Covers}
@@ -27,7 +28,7 @@ pub record IsInTurn (machine : Machine) (frame : List ℕ) (fields : List Field)
   pub number : message_number fields ≡ Some machine.state.next_in
   pub sender : is_value SENDER_COMP_ID machine.member fields ≡ true
   pub target : is_value TARGET_COMP_ID venue fields ≡ true
-  pub ordinary : ((kind_of fields == SEQUENCE_RESET) && not (is_yes GAP_FILL_FLAG fields)) ≡ false
+  pub ordinary : in_reset_mode (kind_of fields) fields ≡ false
 
 -- a session behind a message that it rejects: one number more is expected, the clocks are set, and its Reject is sent under the
 -- next number; nothing is handed out, and nothing else changes
@@ -65,7 +66,7 @@ pub record IsNoReject (member frame : List ℕ) : Type 0 where
   pub first : Option ℤ
   pub body : List ℕ
   pub frame_is : frame ≡ frame_of kind venue member number moment first body
-  pub other : first ≡ None → kind ≡ REJECT → ⊥
+  pub other : first ≡ None → kind ≡ byte_of Reject → ⊥
 
 -- a message that fails a check, and is no order, is rejected; and whatever the message, where a Reject is sent, the session is
 -- behind it as it is behind a message that it rejects
@@ -125,7 +126,7 @@ last_asked last sent = if (last == 0) || nat_lt sent last then sent else last
 abbrev pub RangeIsAsked : Type 0
 RangeIsAsked =
     (machine : Machine) (frame : List ℕ) (moment : ℤ) (fields : List Field) →
-    IsInTurn machine frame fields → kind_of fields ≡ RESEND_REQUEST → failed_of RESEND_REQUEST fields ≡ None →
+    IsInTurn machine frame fields → kind_of fields ≡ ResendRequest → failed_of ResendRequest fields ≡ None →
     0 < number_or_zero BEGIN_SEQ_NO fields → number_or_zero BEGIN_SEQ_NO fields ≤ length machine.sent →
     (number_or_zero END_SEQ_NO fields ≡ 0) ⊎ (number_or_zero BEGIN_SEQ_NO fields ≤ number_or_zero END_SEQ_NO fields) →
     Covers machine.member moment (remembered machine.member 1 machine.sent) (number_or_zero BEGIN_SEQ_NO fields)
