@@ -8,6 +8,7 @@ use Rattle.venue_words.specs.declared.command.Terms.{Terms}
 use Rattle.venue_words.specs.declared.config.Config.{Config}
 use Rattle.venue_words.specs.Conditions.{IsConfig, fits_id, fits_quote}
 use Rattle.fix_write.specs.Fields.{field}
+use Rattle.fix_write.specs.MessageTypes.{byte_of, type_of}
 use Rattle.exec_reports.specs.Bodies.{byte}
 use Rattle.quote_text.specs.Sides.{side_text}
 use Rattle.script_text.specs.Escaping.{escape_text}
@@ -66,7 +67,7 @@ quote_read config market bid offer c w l b o =
 
 request_read : (config : Config) (kind member : ℕ) (es : List Entry) → IsConfig config → HasWords config → member < length config.members
     → AreGood es → length es ≤ 20 → eqb kind 81 ≡ false → eqb kind 32 ≡ false
-    → told_command config (request_text kind (name_at config.members member) (spelled es)) ≡ command_of kind member (as_fields es)
+    → told_command config (request_text kind (name_at config.members member) (spelled es)) ≡ command_of (type_of kind) member (as_fields es)
 unfolding told_command told_request request_text
 request_read config kind member es c w l good few other clear =
     let name = name_at config.members member in
@@ -117,7 +118,7 @@ ids_good id orig more i o good = ((omega arith, omega arith, refl), i, ((omega a
 new_read : (config : Config) (member : ℕ) (id : List ℕ) (terms : Terms) → IsConfig config → HasWords config → member < length config.members
     → IsValue id → AreTerms terms
     → told_command config (request_text 68 (name_at config.members member) (field CL_ORD_ID id ++ terms_fields terms)) ≡ New member id terms
-unfolding command_of
+unfolding command_of type_of byte_of
 new_read config member id terms c w l i t =
     let es = request_entries id None (term_entries terms) in
     let text : field CL_ORD_ID id ++ terms_fields terms ≡ spelled es = ap (λ (x : List ℕ). field CL_ORD_ID id ++ x) (terms_spelled terms) in
@@ -129,7 +130,7 @@ replace_read : (config : Config) (member : ℕ) (id orig : List ℕ) (terms : Te
     → IsValue id → IsValue orig → AreTerms terms
     → told_command config (request_text 71 (name_at config.members member) (field CL_ORD_ID id ++ field ORIG_CL_ORD_ID orig ++ terms_fields terms))
     ≡ Replace member id orig terms
-unfolding command_of
+unfolding command_of type_of byte_of
 replace_read config member id orig terms c w l i o t =
     let es = request_entries id (Some orig) (term_entries terms) in
     let text : field CL_ORD_ID id ++ field ORIG_CL_ORD_ID orig ++ terms_fields terms ≡ spelled es =
@@ -142,7 +143,7 @@ replace_read config member id orig terms c w l i o t =
 cancel_read : (config : Config) (member : ℕ) (id orig : List ℕ) → IsConfig config → HasWords config → member < length config.members
     → IsValue id → IsValue orig
     → told_command config (request_text 70 (name_at config.members member) (field CL_ORD_ID id ++ field ORIG_CL_ORD_ID orig)) ≡ Cancel member id orig
-unfolding command_of
+unfolding command_of type_of byte_of
 cancel_read config member id orig c w l i o =
     let es = request_entries id (Some orig) [] in
     let text : field CL_ORD_ID id ++ field ORIG_CL_ORD_ID orig ≡ spelled es =
@@ -154,7 +155,7 @@ cancel_read config member id orig c w l i o =
 status_read : (config : Config) (member : ℕ) (id : List ℕ) (side : ℕ) → IsConfig config → HasWords config → member < length config.members
     → IsValue id → fits_code side ≡ true
     → told_command config (request_text 72 (name_at config.members member) (field CL_ORD_ID id ++ field SIDE (byte side))) ≡ Status member id side
-unfolding command_of code_in
+unfolding command_of type_of byte_of code_in
 status_read config member id side c w l i s =
     let es = entry CL_ORD_ID (Some id) ∷ entry SIDE (Some (byte side)) ∷ [] in
     let text : field CL_ORD_ID id ++ field SIDE (byte side) ≡ spelled es =

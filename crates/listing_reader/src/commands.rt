@@ -1,17 +1,13 @@
 //! Commands as lines tell them.
 ghost use Rattle.std.specs.Prelude.{◌≡◌, ◌<◌, ◌^◌, IfOk, length, slice_index};
-ghost use Rattle.order_fields.specs.Order.{command_of};
-ghost use Rattle.session_core.specs.Lookup.{text_in};
 ghost use Rattle.listing_reader.specs.Told.{told_quote, told_request, told_command};
 
-use crate::fields::{code_or_zero, fields_of, terms_of, told_bytes};
+use crate::fields::{fields_of, told_bytes};
 use crate::words::{place_in, split_word, told_side};
-use fix_fields::Field;
-use order_fields::tags::{CL_ORD_ID, ORIG_CL_ORD_ID, SIDE};
-use session_core::lookup::text_in;
-use session_core::message_types::{CANCEL_REQUEST, NEW_ORDER, REPLACE_REQUEST};
+use fix_write::MessageType;
+use order_fields::command_of;
 use std::alloc::Global;
-use venue_words::{BoxedTerms, Bytes, Command, Config, NoMemory};
+use venue_words::{Command, Config, NoMemory};
 
 /// The quote of the words behind `Q`.
 #[tactic(auto, unfolding(crate::specs::Told::told_quote))]
@@ -28,50 +24,7 @@ fn told_quote(text: &[u8], config: &Config) -> Command
     }
 }
 
-/// A copy of the value of a tag.
-fn copy_of(alloc: Global, tag: u32, fields: &[Field<'_>]) -> Result<Bytes, NoMemory>
-    ensures { IfOk result (λ bytes. bytes ≡ text_in tag fields.now) }
-{
-    Ok(Bytes::copy_of(alloc, text_in(tag, fields))?)
-}
-
-/// What the fields of a message of this type ask for.
-#[tactic(auto, unfolding(order_fields::specs::Order::command_of))]
-fn command_of(
-    alloc: Global,
-    kind: u8,
-    member: u32,
-    fields: &[Field<'_>],
-) -> Result<Command, NoMemory>
-    ensures { IfOk result (λ command. command ≡ command_of kind member fields.now) }
-{
-    let id = copy_of(alloc, CL_ORD_ID, fields)?;
-    match kind {
-        NEW_ORDER => Ok(Command::New {
-            member,
-            id,
-            terms: BoxedTerms::new(alloc, terms_of(fields))?,
-        }),
-        CANCEL_REQUEST => Ok(Command::Cancel {
-            member,
-            id,
-            orig: copy_of(alloc, ORIG_CL_ORD_ID, fields)?,
-        }),
-        REPLACE_REQUEST => Ok(Command::Replace {
-            member,
-            id,
-            orig: copy_of(alloc, ORIG_CL_ORD_ID, fields)?,
-            terms: BoxedTerms::new(alloc, terms_of(fields))?,
-        }),
-        _ => Ok(Command::Status {
-            member,
-            id,
-            side: code_or_zero(SIDE, fields),
-        }),
-    }
-}
-
-/// What a member asks in a message of this type, by the words behind the type.
+/// What a member asks in a message of the type of this byte, by the words behind it.
 #[tactic(auto, unfolding(crate::specs::Told::told_request))]
 fn told_request(alloc: Global, kind: u8, text: &[u8], config: &Config) -> Result<Command, NoMemory>
     requires { length config.now.members < 2 ^ 32 }
@@ -81,7 +34,7 @@ fn told_request(alloc: Global, kind: u8, text: &[u8], config: &Config) -> Result
     let member = place_in(config.members.as_slice(), member);
     let bytes = told_bytes(alloc, fields)?;
     let fields = fields_of(alloc, bytes.as_slice())?;
-    command_of(alloc, kind, member, fields.as_slice())
+    command_of(alloc, MessageType::of_byte(kind), member, fields.as_slice())
 }
 
 /// The first byte of a text, or 0.
