@@ -85,11 +85,7 @@ pub fn balance(left: Option<Box<Node>>, node: Box<Node>, right: Option<Box<Node>
 }
 
 /// Puts parts on both sides of the node behind the link.
-pub fn rejoin(
-    link: &mut Option<Box<Node>>,
-    left: Option<Box<Node>>,
-    right: Option<Box<Node>>,
-)
+pub fn rejoin(link: &mut Option<Box<Node>>, left: Option<Box<Node>>, right: Option<Box<Node>>)
     requires alone { IsSomeAnd link.old (λ node. IsLeaf node.value) }
     requires ordered { IsOrdered (link_rows left ++ (link_rows link.old ++ link_rows right)) }
     requires near { DifferByAtMost 2 (link_height left) (link_height right) }

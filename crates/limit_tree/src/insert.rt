@@ -21,11 +21,7 @@ pub fn is_before(node: &Node, other: &Node) -> bool
 }
 
 /// Puts one more node into a part.
-pub fn put_into<L: Ledger>(
-    link: &mut Option<Box<Node>>,
-    node: Box<Node>,
-    steps: &mut Steps<L>,
-)
+pub fn put_into<L: Ledger>(link: &mut Option<Box<Node>>, node: Box<Node>, steps: &mut Steps<L>)
     requires alone { IsLeaf node.value }
     requires numbered { HasShortNumbers node.value.row }
     requires free { IsFree node.value.row.cap node.value.row.entry (link_rows link.old) }
@@ -52,7 +48,7 @@ pub fn put_into<L: Ledger>(
                 height_of(&top.right)
             };
             if side < top.height {
-                // The other side is as high as before, and is not looked at.
+                // The part is as high as it was, and the other side need not be looked at.
                 top.least = top.least.min(entry);
                 return;
             }

@@ -16,13 +16,14 @@ pub struct Node {
     pub cap: u32,
     /// The row's entry: the number of the event at which it entered.
     pub entry: u32,
-    pub row: Row,
     /// The least entry of the part.
     pub least: u32,
     /// The height of the part.
     pub height: u32,
     pub left: Option<Box<Node>>,
     pub right: Option<Box<Node>>,
+    // Last, so that what a way down reads stands together.
+    pub row: Row,
 }
 
 impl Model for Node {
@@ -94,11 +95,7 @@ pub fn least_of(link: &Option<Box<Node>>) -> u32
 }
 
 /// The lesser of an entry and the least entries behind two links.
-pub fn least_beside(
-    left: &Option<Box<Node>>,
-    entry: u32,
-    right: &Option<Box<Node>>,
-) -> u32
+pub fn least_beside(left: &Option<Box<Node>>, entry: u32, right: &Option<Box<Node>>) -> u32
     ensures { result ≡ min (least_entry (link_rows left.now)) (min entry (least_entry (link_rows right.now))) }
 {
     least_of(left).min(entry.min(least_of(right)))

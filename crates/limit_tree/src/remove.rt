@@ -30,8 +30,7 @@ pub fn take_first<L: Ledger>(
         Some(top) => {
             let top: &mut Node = top;
             let height = height_of(&top.left);
-            let first = take_first(&mut top.left, steps);
-            match first {
+            match take_first(&mut top.left, steps) {
                 None => {
                     let right = top.right.take();
                     top.least = top.entry;
@@ -40,8 +39,13 @@ pub fn take_first<L: Ledger>(
                 }
                 Some(first) => {
                     if height_of(&top.left) == height {
-                        let gone = first.entry;
-                        top.least = least_without(top.least, gone, &top.left, top.entry, &top.right);
+                        top.least = least_without(
+                            top.least,
+                            first.entry,
+                            &top.left,
+                            top.entry,
+                            &top.right,
+                        );
                         return Some(first);
                     }
                     let left = top.left.take();

@@ -28,8 +28,8 @@ invariant_of-top g t c =
             entry = c.top.invariant.entry;
             ordered = rw rows (ordered_after x c.requires.numbered s c.requires.free);
             least = rw (rows, least_entry-insert) (omega (arith, least, entry, rw w.top-inside-is at c.min-top-inside.ensures));
-            height = omega (arith, side, w.put_into.ensures.not_lower, w.put_into.ensures.at_most_one_higher, c.top.invariant.height, c.top.invariant.balanced);
-            balanced = (omega (arith, side, w.put_into.ensures.not_lower, w.put_into.ensures.at_most_one_higher, c.top.invariant.height, c.top.invariant.balanced), omega (arith, side, w.put_into.ensures.not_lower, w.put_into.ensures.at_most_one_higher, c.top.invariant.height, c.top.invariant.balanced));
+            height = omega (arith, side);
+            balanced = (omega (arith, side), omega (arith, side));
             left_full = rw w.height_of-side.ensures.height at w.height_of-side.ensures.full;
             right_full = c.top.invariant.right_full;
           })
@@ -42,8 +42,8 @@ invariant_of-top g t c =
             entry = c.top.invariant.entry;
             ordered = rw rows (ordered_after x c.requires.numbered s c.requires.free);
             least = rw (rows, least_entry-insert) (omega (arith, least, entry, rw w.top-inside-is at c.min-top-inside.ensures));
-            height = omega (arith, side, w.put_into-else-is_before.ensures.not_lower, w.put_into-else-is_before.ensures.at_most_one_higher, c.top.invariant.height, c.top.invariant.balanced);
-            balanced = (omega (arith, side, w.put_into-else-is_before.ensures.not_lower, w.put_into-else-is_before.ensures.at_most_one_higher, c.top.invariant.height, c.top.invariant.balanced), omega (arith, side, w.put_into-else-is_before.ensures.not_lower, w.put_into-else-is_before.ensures.at_most_one_higher, c.top.invariant.height, c.top.invariant.balanced));
+            height = omega (arith, side);
+            balanced = (omega (arith, side), omega (arith, side));
             left_full = c.top.invariant.left_full;
             right_full = rw w.height_of-side-else-is_before.ensures.height at w.height_of-side-else-is_before.ensures.full;
           })

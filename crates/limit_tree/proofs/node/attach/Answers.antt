@@ -9,7 +9,7 @@ pub overflow_add-height : goal.overflow_add-height
 overflow_add-height c =
     let e : c.max-height.result + 1 ≡ max (link_height c.args.left) (link_height c.args.right) + 1 = omega arith in
     let full : fewest (c.max-height.result + 1) ≤ length (link_rows c.args.left ++ c.args.node.value.row ∷ link_rows c.args.right) + 1 =
-        full_over _ c.args.left c.args.node.value.row c.args.right e c.requires.balanced (rw c.height_of.ensures.height at c.height_of.ensures.full) (rw c.height_of-2.ensures.height at c.height_of-2.ensures.full) in
+    full_over _ c.args.left c.args.node.value.row c.args.right e c.requires.balanced (rw c.height_of.ensures.height at c.height_of.ensures.full) (rw c.height_of-2.ensures.height at c.height_of-2.ensures.full) in
     omega (arith, height_small (c.max-height.result + 1) (link_rows c.args.left ++ c.args.node.value.row ∷ link_rows c.args.right) c.requires.ordered full)
 
 pub invariant_of-top : goal.invariant_of-top

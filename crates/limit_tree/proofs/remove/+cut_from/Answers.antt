@@ -1,4 +1,4 @@
-use Rattle.std.proofs.Common.{◌≡◌, ◌∷◌, ◌++◌, refl, ap, sym, ◌∙◌, Some, arith}
+use Rattle.std.proofs.Common.{◌≡◌, ◌∷◌, ◌++◌, refl, ap, sym, ◌∙◌, arith}
 use Rattle.limit_tree.specs.Link.{link_rows, link_height}
 use Rattle.limit_tree.specs.Order.{without_row, least_entry}
 use Rattle.limit_tree.proofs.Inserting.{split_of}
@@ -38,7 +38,7 @@ invariant_of-top-then-after-before g t c =
             cap = c.top.invariant.cap;
             entry = c.top.invariant.entry;
             ordered = rw rows (ordered_cut c.args.cap c.args.entry s);
-            least = least_at c.args.cap c.args.entry _ _ _ _ rows least c.top.invariant.entry (rw w.top-inside-is at c.least_without-top-inside.ensures.renewed) (rw w.top-inside-is at c.least_without-top-inside.ensures.kept);
+            least = least_at {now = c.least_without-top-inside.result} c.args.cap c.args.entry _ _ _ _ rows least c.top.invariant.entry (rw w.top-inside-is at c.least_without-top-inside.ensures.renewed) (rw w.top-inside-is at c.least_without-top-inside.ensures.kept);
             height = rw same c.top.invariant.height;
             balanced = rw same c.top.invariant.balanced;
             left_full = rw w.height_of.ensures.height at w.height_of.ensures.full;
@@ -52,7 +52,7 @@ invariant_of-top-then-after-before g t c =
             cap = c.top.invariant.cap;
             entry = c.top.invariant.entry;
             ordered = rw rows (ordered_cut c.args.cap c.args.entry s);
-            least = least_at c.args.cap c.args.entry _ _ _ _ rows least c.top.invariant.entry (rw w.top-inside-is at c.least_without-top-inside.ensures.renewed) (rw w.top-inside-is at c.least_without-top-inside.ensures.kept);
+            least = least_at {now = c.least_without-top-inside.result} c.args.cap c.args.entry _ _ _ _ rows least c.top.invariant.entry (rw w.top-inside-is at c.least_without-top-inside.ensures.renewed) (rw w.top-inside-is at c.least_without-top-inside.ensures.kept);
             height = rw same c.top.invariant.height;
             balanced = rw same c.top.invariant.balanced;
             left_full = c.top.invariant.left_full;
@@ -78,10 +78,10 @@ returns-then-after-before-clause-found g t c =
     elim c.match-place_of.branch [
       | in-Less w ↦
           let l = goes_left c.args.cap c.args.entry s (rw (← c.top.view_is) at w.in-Less.ensures) in
-          rw w.before-is (w.cut_from-found.ensures.found ∙ sym l.found)
+          rw (w.before-is, l.found) w.cut_from-found.ensures.found
       | in-Greater w ↦
           let r = goes_right c.args.cap c.args.entry s (rw (← c.top.view_is) at w.in-Greater.ensures) in
-          rw w.before-is (w.cut_from-found-in-Greater.ensures.found ∙ sym r.found)
+          rw (w.before-is, r.found) w.cut_from-found-in-Greater.ensures.found
     ]
 
 pub rejoin-requires-clause-ordered : goal.rejoin-requires-clause-ordered
@@ -114,8 +114,8 @@ returns-else-after-before-clause-found g t c =
     elim c.match-place_of.branch [
       | in-Less w ↦
           let l = goes_left c.args.cap c.args.entry s (rw (← c.top.view_is) at w.in-Less.ensures) in
-          rw w.before-is (w.cut_from-found.ensures.found ∙ sym l.found)
+          rw (w.before-is, l.found) w.cut_from-found.ensures.found
       | in-Greater w ↦
           let r = goes_right c.args.cap c.args.entry s (rw (← c.top.view_is) at w.in-Greater.ensures) in
-          rw w.before-is (w.cut_from-found-in-Greater.ensures.found ∙ sym r.found)
+          rw (w.before-is, r.found) w.cut_from-found-in-Greater.ensures.found
     ]

@@ -1,4 +1,4 @@
-use Rattle.std.proofs.Common.{◌≡◌, ◌≢◌, ◌∷◌, ◌++◌, min, ap, ◌∙◌, inl, inr, arith}
+use Rattle.std.proofs.Common.{◌≡◌, ◌∷◌, ◌++◌, min, ap, ◌∙◌, inl, inr, arith}
 use Rattle.std.proofs.lemmas.Bool.{cases_eq}
 use Rattle.limit_tree.specs.Link.{link_rows}
 use Rattle.limit_tree.specs.Order.{least_entry}
@@ -7,10 +7,10 @@ use Rattle.limit_tree.proofs.remove.+take_first.Goals as goal
 
 pub invariant_of-top-then-height_of-height : goal.invariant_of-top-then-height_of-height
 invariant_of-top-then-height_of-height g t c =
-    let first = c.in-Some-first.first.value.row in
-    let front = link_rows c.take_first-first.new.link in
+    let first = c.in-Some-take_first.first.value.row in
+    let front = link_rows c.take_first.new.link in
     let back = link_rows c.top.inside.right in
-    let e : link_rows c.top.inside.left ≡ first ∷ front = c.in-Some-first.ensures.rows ∙ ap (λ rows. rows ++ front) c.in-Some-first.ensures.first in
+    let e : link_rows c.top.inside.left ≡ first ∷ front = c.in-Some-take_first.ensures.rows ∙ ap (λ rows. rows ++ front) c.in-Some-take_first.ensures.first in
     let gone : c.behind-first.inside.entry ≡ first.entry = c.behind-first.invariant.entry ∙ ap (λ p. p.row.entry) (c.behind-first.view_is ∙ c.deref.ensures) in
     let old : c.top.inside.least ≡ min first.entry (least_entry (front ++ c.top.inside.row ∷ back)) = rw e at c.top.invariant.least in
     record {
