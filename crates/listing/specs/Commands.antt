@@ -4,7 +4,10 @@ use Rattle.venue_words.specs.declared.command.Command.{Command}
 use Rattle.venue_words.specs.declared.command.Command.TheVariants.{Quote, New, Cancel, Replace, Status}
 use Rattle.venue_words.specs.declared.command.Terms.{Terms}
 use Rattle.venue_words.specs.declared.config.Config.{Config}
+use Rattle.fix_write.specs.declared.message_type.MessageType.{MessageType}
+use Rattle.fix_write.specs.declared.message_type.MessageType.TheVariants.{NewOrder, CancelRequest, ReplaceRequest, StatusRequest}
 use Rattle.fix_write.specs.Fields.{field}
+use Rattle.fix_write.specs.MessageTypes.{byte_of}
 use Rattle.order_fields.specs.declared.tags.TheConstants.{CL_ORD_ID, ORIG_CL_ORD_ID, SIDE, ORDER_QTY, ORD_TYPE, PRICE, TIME_IN_FORCE, MIN_QTY, MIN_QTY_METHOD, PEG_PRICE_TYPE, PEG_OFFSET_VALUE, PEG_OFFSET_TYPE, PEG_MOVE_TYPE, PEG_ROUND_DIRECTION}
 use Rattle.exec_reports.specs.Bodies.{byte, field_if}
 use Rattle.exec_reports.specs.Texts.{amount_text}
@@ -51,18 +54,18 @@ abbrev pub terms_fields : Terms → List ℕ
 terms_fields terms = order_terms terms ++ peg_terms terms
 
 -- what a member asks: the message's type, the member's name, and the fields as text
-unfoldable pub request_text : ℕ → List ℕ → List ℕ → List ℕ
-request_text kind member fields = byte kind ++ word member ++ word (escape_text fields)
+unfoldable pub request_text : MessageType → List ℕ → List ℕ → List ℕ
+request_text kind member fields = byte (byte_of kind) ++ word member ++ word (escape_text fields)
 
 -- ---- commands
 
 unfoldable pub command_text : Config → Command → List ℕ
 command_text config (Quote market bid offer) = quote_text (name_at config.markets market) bid offer
 command_text config (New member id terms) =
-    request_text 68 (name_at config.members member) (field CL_ORD_ID id ++ terms_fields terms)
+    request_text NewOrder (name_at config.members member) (field CL_ORD_ID id ++ terms_fields terms)
 command_text config (Cancel member id orig) =
-    request_text 70 (name_at config.members member) (field CL_ORD_ID id ++ field ORIG_CL_ORD_ID orig)
+    request_text CancelRequest (name_at config.members member) (field CL_ORD_ID id ++ field ORIG_CL_ORD_ID orig)
 command_text config (Replace member id orig terms) =
-    request_text 71 (name_at config.members member) (field CL_ORD_ID id ++ field ORIG_CL_ORD_ID orig ++ terms_fields terms)
+    request_text ReplaceRequest (name_at config.members member) (field CL_ORD_ID id ++ field ORIG_CL_ORD_ID orig ++ terms_fields terms)
 command_text config (Status member id side) =
-    request_text 72 (name_at config.members member) (field CL_ORD_ID id ++ field SIDE (byte side))
+    request_text StatusRequest (name_at config.members member) (field CL_ORD_ID id ++ field SIDE (byte side))

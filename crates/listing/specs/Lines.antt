@@ -4,7 +4,8 @@ use Rattle.venue_words.specs.declared.command.Event.{Event}
 use Rattle.venue_words.specs.declared.config.Config.{Config}
 use Rattle.venue_words.specs.declared.report.Report.{Report}
 use Rattle.fix_write.specs.Moments.{moment_text}
-use Rattle.exec_reports.specs.Bodies.{byte, body_of, kind_code}
+use Rattle.fix_write.specs.MessageTypes.{byte_of}
+use Rattle.exec_reports.specs.Bodies.{byte, body_of, kind_of}
 use Rattle.script_text.specs.Escaping.{escape_text}
 use Rattle.listing.specs.Commands.{name_at, word, command_text}
 
@@ -35,7 +36,7 @@ report_line config symbol report =
     ++ word (decimal report.event)
     ++ word (decimal report.place)
     ++ word (name_at config.members report.member)
-    ++ word (byte (kind_code report))
+    ++ word (byte (byte_of (kind_of report)))
     ++ word (report_body config symbol report)
 
 -- a line with its LF

@@ -4,7 +4,7 @@ ghost use Rattle.quote_text.specs.Sides.{side_text};
 ghost use Rattle.listing.specs.Commands.{name_at, word, quote_text, request_text, command_text};
 
 use crate::fields::push_terms;
-use fix_write::{push_byte_field, push_field};
+use fix_write::{MessageType, push_byte_field, push_field};
 use order_fields::tags::{CL_ORD_ID, ORIG_CL_ORD_ID, SIDE};
 use quote_text::push_side;
 use script_text::push_escaped_text;
@@ -52,10 +52,15 @@ fn push_quote(
 
 /// Appends what a member asks: the message's type, the member's name, and the fields as text.
 #[tactic(auto, unfolding(crate::specs::Commands::request_text))]
-fn push_request(out: &mut Vec<u8>, kind: u8, member: &[u8], fields: &[u8]) -> Result<(), NoMemory>
+fn push_request(
+    out: &mut Vec<u8>,
+    kind: MessageType,
+    member: &[u8],
+    fields: &[u8],
+) -> Result<(), NoMemory>
     ensures { OnOk result (out.new.items ≡ out.old.items ++ request_text kind member.now fields.now) }
 {
-    out.push(kind)?;
+    out.push(kind.byte())?;
     push_word(out, member)?;
     out.push(b' ')?;
     push_escaped_text(out, fields)?;
@@ -81,12 +86,12 @@ pub fn push_command(
         Command::New { member, id, terms } => {
             push_field(fields, CL_ORD_ID, id.as_slice())?;
             push_terms(fields, terms.get())?;
-            (b'D', *member)
+            (MessageType::NewOrder, *member)
         }
         Command::Cancel { member, id, orig } => {
             push_field(fields, CL_ORD_ID, id.as_slice())?;
             push_field(fields, ORIG_CL_ORD_ID, orig.as_slice())?;
-            (b'F', *member)
+            (MessageType::CancelRequest, *member)
         }
         Command::Replace {
             member,
@@ -97,12 +102,12 @@ pub fn push_command(
             push_field(fields, CL_ORD_ID, id.as_slice())?;
             push_field(fields, ORIG_CL_ORD_ID, orig.as_slice())?;
             push_terms(fields, terms.get())?;
-            (b'G', *member)
+            (MessageType::ReplaceRequest, *member)
         }
         Command::Status { member, id, side } => {
             push_field(fields, CL_ORD_ID, id.as_slice())?;
             push_byte_field(fields, SIDE, *side)?;
-            (b'H', *member)
+            (MessageType::StatusRequest, *member)
         }
     };
     let member = name_at(config.members.as_slice(), member);

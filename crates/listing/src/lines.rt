@@ -114,7 +114,7 @@ pub fn push_report_line(
     push_number_word(out, u64::from(report.event))?;
     push_number_word(out, u64::from(report.place))?;
     push_word(out, name_at(config.members.as_slice(), report.member))?;
-    push_word(out, &[kind(report)])?;
+    push_word(out, &[kind(report).byte()])?;
     push_body(alloc, out, config, symbol, report)?;
     out.push(b'\n')?;
     Ok(())
