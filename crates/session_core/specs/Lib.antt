@@ -11,6 +11,7 @@ pub mod Laws
 pub mod Logon
 pub mod Lookup
 pub mod Machine
+pub mod MessageLists
 pub mod MessageTypes
 pub mod Plan
 pub mod Resend

@@ -12,6 +12,7 @@ pub mod laws;
 mod logon;
 pub mod lookup;
 mod message;
+mod message_list;
 pub mod message_types;
 mod plan;
 pub mod reasons;

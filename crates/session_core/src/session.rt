@@ -8,6 +8,7 @@ use crate::content::content_of;
 use crate::frames::{new_frame, push_new_frames};
 use crate::lookup::{kind_of, message_number};
 use crate::message::{Incoming, Message};
+use crate::message_list::MessageList;
 use crate::plan::Plan;
 use crate::resent::frames_of_span;
 use crate::sent::SentMessages;
@@ -389,7 +390,8 @@ impl Session {
         let first = self.sent.len() as u64 + 1;
         let mut frames = Vec::new(self.alloc);
         push_new_frames(&mut frames, self.member.as_slice(), moment, first, messages)?;
-        self.sent.push_all(messages, moment)?;
+        let list = MessageList::of(self.alloc, messages)?;
+        self.sent.push_all(&list, moment)?;
         self.state = sent_now(moment, &frames, self.state);
         Ok(frames)
     }
