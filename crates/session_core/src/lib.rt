@@ -29,6 +29,7 @@ mod turn;
 
 pub use checks::{FailedCheck, Form, Item, first_failed};
 pub use message::{Kept, Message, Request};
+pub use message_list::{Body, ListedMessage, MessageList};
 pub use runs::Input;
 pub use session::Session;
 pub use state::{EndCause, Phase, State};

@@ -1,6 +1,6 @@
 //! Messages whose bodies stand in one list, one behind the other, so that a message costs no memory of its own, and all are
 //! given back at once.
-ghost use Rattle.std.specs.Prelude.{◌≡◌, ◌+◌, ◌^◌, ◌<◌, ◌≤◌, ◌++◌, ◌∷◌, [], OnOk, OnErr, length, map, All, vec_len, vec_capacity};
+ghost use Rattle.std.specs.Prelude.{ℕ, List, ◌≡◌, ◌+◌, ◌^◌, ◌<◌, ◌≤◌, ◌++◌, ◌∷◌, [], OnOk, OnErr, length, map, All, vec_len, vec_capacity};
 ghost use Rattle.session_core.specs.MessageLists.{IsWithin, messages_in, part_behind, moved};
 
 use crate::message::Message;
@@ -53,6 +53,37 @@ fn push_one(
         start,
         end: bodies.len(),
     });
+    Ok(())
+}
+
+/// What lays the body of a message.
+pub trait Body {
+    /// The bytes of the body.
+    ghost bytes: { Self → List ℕ };
+
+    /// Appends the body. A refusal may leave anything.
+    fn push_to(&self, out: &mut Vec<u8>) -> Result<(), NoMemory>
+        ensures { OnOk result (out.new.items ≡ out.old.items ++ bytes self.now) };
+}
+
+/// Adds a message whose body is laid behind the others. A refusal may leave anything.
+fn push_laid<B: Body>(
+    bodies: &mut Vec<u8>,
+    parts: &mut Vec<Part>,
+    kind: u8,
+    body: &B,
+) -> Result<(), NoMemory>
+    ensures bodies { OnOk result (bodies.new.items ≡ bodies.old.items ++ B.bytes body.now) }
+    ensures parts { OnOk result (parts.new.items
+        ≡ parts.old.items ++ part_behind bodies.old.items kind (B.bytes body.now) ∷ []) }
+{
+    let start = bodies.len();
+    body.push_to(bodies)?;
+    parts.push(Part {
+        kind,
+        start,
+        end: bodies.len(),
+    })?;
     Ok(())
 }
 
@@ -131,6 +162,29 @@ impl MessageList {
         ensures err { OnErr result (self.new ≡ self.old) }
     {
         push_one(&mut self.bodies, &mut self.parts, kind, body)
+    }
+
+    /// Takes all messages away, and keeps the memory for others.
+    pub fn clear(&mut self)
+        ensures { self.new ≡ [] }
+    {
+        self.bodies.clear();
+        self.parts.clear();
+    }
+
+    /// Adds a message, whose body is laid where it stays. Where memory is wanted no message is left.
+    pub fn push_laid<B: Body>(&mut self, kind: u8, body: &B) -> Result<(), NoMemory>
+        ensures ok { OnOk result (self.new ≡ self.old ++ message kind (B.bytes body.now) ∷ []) }
+        ensures err { OnErr result (self.new ≡ []) }
+    {
+        match push_laid(&mut self.bodies, &mut self.parts, kind, body) {
+            Ok(()) => Ok(()),
+            Err(_) => {
+                self.bodies.clear();
+                self.parts.clear();
+                Err(NoMemory)
+            }
+        }
     }
 
     /// Adds copies of all messages of a list. Nothing changes where memory is wanted.

@@ -5,6 +5,7 @@ ghost use Rattle.session_core.specs.Sent.{no_places, places_from};
 use crate::message_list::MessageList;
 use std::alloc::Global;
 use std::marker::Model;
+use std::mem::size_of;
 use venue_words::NoMemory;
 
 /// An application message that is kept, with its body where it stands.
@@ -23,6 +24,12 @@ impl<'a> Model for Stored<'a> {
     ghost view = { λ s. record { message = record { kind = s.kind; body = s.body.now }; moment = s.moment } };
 }
 
+/// Which of the application messages was sent under a number, if one was.
+type Place = Option<u32>;
+
+// A session that only beats grows by as much with each message.
+const _: () = prove!(size_of::<Place>() == 8);
+
 /// A count of messages in four bytes. More than 4,294,967,295 messages would want more memory than there is.
 fn small_count(count: usize) -> Result<u32, NoMemory>
     ensures { IfOk result (λ small. small ≡ count) }
@@ -34,7 +41,7 @@ fn small_count(count: usize) -> Result<u32, NoMemory>
 }
 
 /// Adds so many times nothing. Nothing changes where memory is wanted.
-fn push_none(places: &mut Vec<Option<u32>>, count: usize) -> Result<(), NoMemory>
+fn push_none(places: &mut Vec<Place>, count: usize) -> Result<(), NoMemory>
     ensures ok { OnOk result (places.new.items ≡ places.old.items ++ no_places count) }
     ensures err { OnErr result (places.new.items ≡ places.old.items) }
 {
@@ -46,13 +53,7 @@ fn push_none(places: &mut Vec<Option<u32>>, count: usize) -> Result<(), NoMemory
 }
 
 /// Adds places from one on, for which there is room, and for each of them the moment.
-fn push_places(
-    places: &mut Vec<Option<u32>>,
-    moments: &mut Vec<i64>,
-    first: u32,
-    count: u32,
-    moment: i64,
-)
+fn push_places(places: &mut Vec<Place>, moments: &mut Vec<i64>, first: u32, count: u32, moment: i64)
     requires small { first + count < 2 ^ 32 }
     requires room { vec_len places.old + count ≤ vec_capacity places.old }
     requires room_of_moments { vec_len moments.old + count ≤ vec_capacity moments.old }
@@ -75,7 +76,7 @@ pub(crate) struct SentMessages {
     moments: Vec<i64>,
     /// By number from 1 on, which of the application messages was sent. A message of the session has its eight bytes here, and
     /// nothing else.
-    places: Vec<Option<u32>>,
+    places: Vec<Place>,
 }
 
 impl Model for SentMessages {
