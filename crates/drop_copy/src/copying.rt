@@ -11,10 +11,10 @@ ghost use Rattle.drop_copy.specs.Copies.{copy_of, copies_past};
 ghost use Rattle.drop_copy.specs.Desks.{AreConfigured};
 ghost use Rattle.drop_copy.specs.Looks.{AllWentOn, LookedRow, WentOn};
 
-use crate::bodies::copy_of;
+use crate::bodies::CopyBody;
 use crate::names::name_at;
-use session_core::Message;
-use std::alloc::Global;
+use exec_reports::kind;
+use session_core::MessageList;
 use venue_words::{Config, Floor, NoMemory, Report};
 
 /// Whose reports are looked for, and from which positions on: by symbol, and then by listed member.
@@ -41,16 +41,20 @@ fn behind(cursors: &[u32], count: usize) -> &[u32]
 
 /// Adds the copies of reports.
 fn push_copies(
-    alloc: Global,
-    messages: &mut Vec<Message>,
+    messages: &mut MessageList,
     member: &[u8],
     symbol: &[u8],
     reports: &[Report],
 ) -> Result<(), NoMemory>
-    ensures { OnOk result (messages.new.items ≡ messages.old.items ++ map (copy_of member.now symbol.now) reports.now) }
+    ensures { OnOk result (messages.new ≡ messages.old ++ map (copy_of member.now symbol.now) reports.now) }
 {
     for report in reports {
-        messages.push(copy_of(alloc, report, symbol, member)?)?;
+        let body = CopyBody {
+            report,
+            symbol,
+            member,
+        };
+        messages.push_laid(kind(report), &body)?;
     }
     Ok(())
 }
@@ -65,11 +69,10 @@ struct ReportsFrom {
 
 /// Adds the copies of these reports, and answers how many reports the symbol has.
 fn look<F: Floor>(
-    alloc: Global,
     floor: &mut F,
     config: &Config,
     wanted: ReportsFrom,
-    messages: &mut Vec<Message>,
+    messages: &mut MessageList,
 ) -> Result<u32, NoMemory>
     requires config { IsConfig config.now }
     requires setup { IsSetUpFor config.now (F.mark floor.old).setup }
@@ -81,7 +84,7 @@ fn look<F: Floor>(
     ensures turns { OnOk result (TurnsRose (F.at floor.old wanted.symbol).turns (F.at floor.new wanted.symbol).turns) }
     ensures made { (F.at floor.new wanted.symbol).reports
         ≡ F.reports_in (F.mark floor.old) wanted.symbol (F.at floor.new wanted.symbol).journal }
-    ensures messages { OnOk result (messages.new.items ≡ messages.old.items
+    ensures messages { OnOk result (messages.new ≡ messages.old
         ++ map (copy_of (name_at config.now.members wanted.member) (name_at config.now.symbols wanted.symbol))
         (reports_of wanted.member wanted.from (F.at floor.new wanted.symbol).reports)) }
     ensures front { IfOk result (λ front. front ≡ length (F.at floor.new wanted.symbol).reports) }
@@ -89,17 +92,16 @@ fn look<F: Floor>(
     let look = floor.reports_after(wanted.symbol, wanted.member, wanted.from)?;
     let name = name_at(config.symbols.as_slice(), wanted.symbol);
     let own = name_at(config.members.as_slice(), wanted.member);
-    push_copies(alloc, messages, own, name, look.reports.as_slice())?;
+    push_copies(messages, own, name, look.reports.as_slice())?;
     Ok(look.front)
 }
 
 /// Adds the copies of a symbol, and the cursors behind them. Whatever was added before stands at the front.
 fn look_at_symbol<F: Floor>(
-    alloc: Global,
     floor: &mut F,
     listed: Listed<'_>,
     symbol: u32,
-    messages: &mut Vec<Message>,
+    messages: &mut MessageList,
     moved: &mut Vec<u32>,
 ) -> Result<(), NoMemory>
     requires config { IsConfig listed.config.now }
@@ -111,7 +113,7 @@ fn look_at_symbol<F: Floor>(
     ensures waited { Waited (F.at floor.old symbol) (F.at floor.new symbol) }
     ensures looked { OnOk result (LookedRow (F.reports_in (F.mark floor.old) symbol) listed.entry.config.now
         symbol listed.entry.members.now listed.entry.cursors.now (F.at floor.old symbol) (F.at floor.new symbol)
-        messages.old.items messages.new.items moved.old.items moved.new.items) }
+        messages.old messages.new moved.old.items moved.new.items) }
 {
     for member in listed.members {
         let from = cursor_at(listed.cursors, moved.len());
@@ -120,7 +122,7 @@ fn look_at_symbol<F: Floor>(
             member: *member,
             from,
         };
-        let front = look(alloc, floor, listed.config, wanted, messages)?;
+        let front = look(floor, listed.config, wanted, messages)?;
         moved.push(from.max(front))?;
     }
     Ok(())
@@ -128,16 +130,15 @@ fn look_at_symbol<F: Floor>(
 
 /// Adds the copies of all symbols, and the cursors behind them. After a refusal some of both may be added.
 pub fn look_at_all<F: Floor>(
-    alloc: Global,
     floor: &mut F,
     listed: Listed<'_>,
-    messages: &mut Vec<Message>,
+    messages: &mut MessageList,
     moved: &mut Vec<u32>,
 ) -> Result<(), NoMemory>
     requires config { IsConfig listed.config.now }
     requires setup { IsSetUpFor listed.config.now (F.mark floor.old).setup }
     requires members { AreConfigured listed.members.now listed.config.now }
-    requires messages { messages.old.items ≡ [] }
+    requires messages { messages.old ≡ [] }
     requires moved { moved.old.items ≡ [] }
     ensures mark { F.mark floor.new ≡ F.mark floor.old }
     ensures waited { (symbol : ℕ) → Waited (F.at floor.old symbol) (F.at floor.new symbol) }
@@ -146,14 +147,14 @@ pub fn look_at_all<F: Floor>(
     ensures turns { OnOk result (0 < length listed.entry.members.now → (symbol : ℕ)
         → symbol < length listed.entry.config.now.symbols
         → TurnsRose (F.at floor.old symbol).turns (F.at floor.new symbol).turns) }
-    ensures messages { OnOk result (messages.new.items ≡ copies_past listed.entry.config.now listed.entry.members.now
+    ensures messages { OnOk result (messages.new ≡ copies_past listed.entry.config.now listed.entry.members.now
         listed.entry.cursors.now moved.new.items (λ symbol. (F.at floor.new symbol).reports)) }
     ensures moved { OnOk result (AllWentOn F.at (F.reports_in (F.mark floor.old))
         (length listed.entry.config.now.symbols) listed.entry.members.now listed.entry.cursors.now moved.new.items
         floor.old floor.new) }
 {
     for symbol in 0..listed.config.symbols.len() {
-        look_at_symbol(alloc, floor, listed, symbol as u32, messages, moved)?;
+        look_at_symbol(floor, listed, symbol as u32, messages, moved)?;
     }
     moved.extend_from_slice(behind(listed.cursors, moved.len()))?;
     Ok(())

@@ -13,7 +13,7 @@ ghost use Rattle.drop_copy.specs.Looks.{AllWentOn};
 use crate::answering::work_frames;
 use crate::copying::{Listed, look_at_all};
 use fix_frames::Framer;
-use session_core::{Session, Turn};
+use session_core::{MessageList, Session, Turn};
 use std::alloc::Global;
 use std::marker::Model;
 use std::mem::swap;
@@ -31,6 +31,8 @@ pub struct DropDesk {
     cursors: Vec<u32>,
     /// Room for the next cursors.
     moved: Vec<u32>,
+    /// Room for the messages that are sent next.
+    messages: MessageList,
 }
 
 impl Model for DropDesk {
@@ -70,6 +72,7 @@ impl DropDesk {
             members,
             cursors: Vec::with_capacity(alloc, count)?,
             moved: Vec::with_capacity(alloc, count)?,
+            messages: MessageList::new(alloc),
         })
     }
 
@@ -189,15 +192,15 @@ impl DropDesk {
         if !self.session.is_up() {
             return Ok(Vec::new(self.alloc));
         }
-        let mut messages = Vec::new(self.alloc);
+        self.messages.clear();
         self.moved.clear();
         let listed = Listed {
             config,
             members: &self.members,
             cursors: &self.cursors,
         };
-        look_at_all(self.alloc, floor, listed, &mut messages, &mut self.moved)?;
-        let frames = self.session.send_all(&messages, moment)?;
+        look_at_all(floor, listed, &mut self.messages, &mut self.moved)?;
+        let frames = self.session.send_all(&self.messages, moment)?;
         swap(&mut self.cursors, &mut self.moved);
         Ok(frames)
     }

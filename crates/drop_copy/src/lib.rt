@@ -11,7 +11,7 @@ mod serving;
 pub mod tags;
 mod turns;
 
-pub use bodies::copy_body;
+pub use bodies::push_copy_body;
 pub use desk::DropDesk;
 pub use link_work::LinkEnd;
 pub use plan::{DropPlan, drop_members};

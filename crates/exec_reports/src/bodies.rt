@@ -167,18 +167,17 @@ fn room(report: &Report, symbol: &[u8], member: &[u8]) -> usize {
     names.saturating_add(ids).saturating_add(192)
 }
 
-/// The body of an execution report.
-fn execution_report(
-    alloc: Global,
+/// Appends the body of an execution report.
+fn push_execution_report(
+    out: &mut Vec<u8>,
     report: &Report,
     symbol: &[u8],
     member: &[u8],
-) -> Result<Vec<u8>, NoMemory>
-    ensures { IfOk result (λ body. body.items ≡ execution_body report.now symbol.now member.now) }
+) -> Result<(), NoMemory>
+    ensures { OnOk result (out.new.items ≡ out.old.items ++ execution_body report.now symbol.now member.now) }
 {
     let kind = &report.kind;
-    let mut body = Vec::with_capacity(alloc, room(report, symbol, member))?;
-    let out = &mut body;
+    out.reserve(room(report, symbol, member))?;
     push_order_id_field(out, symbol, first_of(kind))?;
     push_field(out, CL_ORD_ID, id_of(kind))?;
     push_orig(out, kind)?;
@@ -200,16 +199,15 @@ fn execution_report(
     push_price_if(out, PEGGED_PRICE, price_of(kind))?;
     push_number_if(out, PRIORITY_EVENT, time_of(kind))?;
     push_code_if(out, RULE_NUMBER, rule_of(kind))?;
-    Ok(body)
+    Ok(())
 }
 
-/// The body of a cancel reject.
-fn cancel_reject(alloc: Global, report: &Report, symbol: &[u8]) -> Result<Vec<u8>, NoMemory>
-    ensures { IfOk result (λ body. body.items ≡ refusal_body report.now symbol.now) }
+/// Appends the body of a cancel reject.
+fn push_cancel_reject(out: &mut Vec<u8>, report: &Report, symbol: &[u8]) -> Result<(), NoMemory>
+    ensures { OnOk result (out.new.items ≡ out.old.items ++ refusal_body report.now symbol.now) }
 {
     let kind = &report.kind;
-    let mut body = Vec::with_capacity(alloc, room(report, symbol, b""))?;
-    let out = &mut body;
+    out.reserve(room(report, symbol, b""))?;
     push_order_id_field(out, symbol, first_of(kind))?;
     push_field(out, CL_ORD_ID, id_of(kind))?;
     push_orig(out, kind)?;
@@ -218,13 +216,29 @@ fn cancel_reject(alloc: Global, report: &Report, symbol: &[u8]) -> Result<Vec<u8
     push_code_if(out, CXL_REJ_REASON, refusal_of(kind))?;
     push_transact_time(out, report)?;
     push_code_if(out, RULE_NUMBER, rule_of(kind))?;
-    Ok(body)
+    Ok(())
 }
 
-/// The body of a report: an execution report, or for a refused cancel or replace a cancel reject. `symbol` is the
+/// Appends the body of a report: an execution report, or for a refused cancel or replace a cancel reject. `symbol` is the
 /// symbol's name, or for a message that came to no book the value of Symbol(55) that was received; `member` is the
-/// name of the report's member.
+/// name of the report's member. A refusal leaves a part of it.
 #[tactic(auto, unfolding(crate::specs::Bodies::body_of))]
+pub fn push_body(
+    out: &mut Vec<u8>,
+    report: &Report,
+    symbol: &[u8],
+    member: &[u8],
+) -> Result<(), NoMemory>
+    ensures { OnOk result (out.new.items ≡ out.old.items ++ body_of report.now symbol.now member.now) }
+{
+    if refuses(&report.kind) {
+        push_cancel_reject(out, report, symbol)
+    } else {
+        push_execution_report(out, report, symbol, member)
+    }
+}
+
+/// The body of a report in memory of its own.
 pub fn body(
     alloc: Global,
     report: &Report,
@@ -233,11 +247,9 @@ pub fn body(
 ) -> Result<Vec<u8>, NoMemory>
     ensures { IfOk result (λ body. body.items ≡ body_of report.now symbol.now member.now) }
 {
-    if refuses(&report.kind) {
-        cancel_reject(alloc, report, symbol)
-    } else {
-        execution_report(alloc, report, symbol, member)
-    }
+    let mut body = Vec::new(alloc);
+    push_body(&mut body, report, symbol, member)?;
+    Ok(body)
 }
 
 /// MsgType(35) of a report: that of a cancel reject, or of an execution report.

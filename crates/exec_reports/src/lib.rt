@@ -7,4 +7,4 @@ pub mod parts;
 pub mod tags;
 pub mod texts;
 
-pub use bodies::{body, kind};
+pub use bodies::{body, kind, push_body};

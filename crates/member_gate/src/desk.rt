@@ -18,7 +18,7 @@ use crate::reporting::{Reader, are_past, look_all, look_past};
 use crate::worked::Worked;
 use crate::working::work_frames;
 use fix_frames::Framer;
-use session_core::{Session, Turn};
+use session_core::{MessageList, Session, Turn};
 use std::alloc::Global;
 use std::marker::Model;
 use std::mem::swap;
@@ -37,6 +37,8 @@ pub struct Desk {
     cursors: Vec<u32>,
     /// Room for the next cursors.
     fronts: Vec<u32>,
+    /// Room for the messages that are sent next.
+    messages: MessageList,
     /// How many commands the last piece submitted.
     submitted: u32,
 }
@@ -72,6 +74,7 @@ impl Desk {
             framer: Framer::new(alloc),
             cursors: Vec::new(alloc),
             fronts: Vec::new(alloc),
+            messages: MessageList::new(alloc),
             submitted: 0,
         })
     }
@@ -279,15 +282,15 @@ impl Desk {
         if !self.session.is_up() {
             return Ok(Vec::new(self.alloc));
         }
-        let mut messages = Vec::new(self.alloc);
+        self.messages.clear();
         self.fronts.clear();
         let reader = Reader {
             config,
             member: self.member,
             cursors: &self.cursors,
         };
-        look_all(self.alloc, floor, reader, &mut messages, &mut self.fronts)?;
-        let frames = self.session.send_all(&messages, moment)?;
+        look_all(floor, reader, &mut self.messages, &mut self.fronts)?;
+        let frames = self.session.send_all(&self.messages, moment)?;
         swap(&mut self.cursors, &mut self.fronts);
         Ok(frames)
     }
@@ -341,22 +344,15 @@ impl Desk {
         if !self.session.is_up() {
             return Ok(Vec::new(self.alloc));
         }
-        let mut messages = Vec::new(self.alloc);
+        self.messages.clear();
         self.fronts.clear();
         let reader = Reader {
             config,
             member: self.member,
             cursors: &self.cursors,
         };
-        look_past(
-            self.alloc,
-            floor,
-            reader,
-            awaited,
-            &mut messages,
-            &mut self.fronts,
-        )?;
-        let sent = self.session.send_all(&messages, moment)?;
+        look_past(floor, reader, awaited, &mut self.messages, &mut self.fronts)?;
+        let sent = self.session.send_all(&self.messages, moment)?;
         swap(&mut self.fronts, &mut self.cursors);
         Ok(sent)
     }

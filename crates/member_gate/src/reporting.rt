@@ -2,16 +2,16 @@
 ghost use Rattle.std.specs.Prelude.{◌≡◌, ◌≢◌, ◌≤◌, ◌<◌, ◌++◌, ℕ, [], true, false, map, drop, length, IfOk, OnOk, OnErr};
 ghost use Rattle.venue_words.specs.Conditions.{IsConfig};
 ghost use Rattle.venue_words.specs.Floors.{IsSetUpFor, TurnsRose};
+ghost use Rattle.exec_reports.specs.Bodies.{body_of};
 ghost use Rattle.member_gate.specs.Answering.{name_at, message_of};
 ghost use Rattle.member_gate.specs.Submitting.{Waited};
 ghost use Rattle.member_gate.specs.Reporting.{cursor_at, asked_at, where_asked, asked_reports, messages_at, messages_past, AreFronts, ArePast, HasNoNews, MovedOn};
 
 use crate::awaited::Awaited;
 use crate::names::name_at;
-use exec_reports::{body, kind};
-use session_core::Message;
-use std::alloc::Global;
-use venue_words::{Bytes, Config, Floor, NoMemory, Report};
+use exec_reports::{kind, push_body};
+use session_core::{Body, MessageList};
+use venue_words::{Config, Floor, NoMemory, Report};
 
 /// How many reports of a symbol were gone through.
 fn cursor_at(cursors: &[u32], symbol: usize) -> u32
@@ -57,33 +57,38 @@ fn behind(cursors: &[u32], count: usize) -> &[u32]
     }
 }
 
-/// A report as a message.
-fn message_of(
-    alloc: Global,
-    member: &[u8],
-    symbol: &[u8],
-    report: &Report,
-) -> Result<Message, NoMemory>
-    ensures { IfOk result (λ message. message ≡ message_of member.now symbol.now report.now) }
-{
-    Ok(Message {
-        kind: kind(report),
-        body: Bytes(body(alloc, report, symbol, member)?),
-    })
+/// The body of a report of a symbol and a member, by their names.
+#[derive(Clone, Copy)]
+struct ReportBody<'a> {
+    report: &'a Report,
+    symbol: &'a [u8],
+    member: &'a [u8],
+}
+
+impl<'a> Body for ReportBody<'a> {
+    ghost bytes = { λ b. body_of b.report.now b.symbol.now b.member.now };
+
+    fn push_to(&self, out: &mut Vec<u8>) -> Result<(), NoMemory> {
+        push_body(out, self.report, self.symbol, self.member)
+    }
 }
 
 /// Adds reports as messages.
 fn push_messages(
-    alloc: Global,
-    messages: &mut Vec<Message>,
+    messages: &mut MessageList,
     member: &[u8],
     symbol: &[u8],
     reports: &[Report],
 ) -> Result<(), NoMemory>
-    ensures { OnOk result (messages.new.items ≡ messages.old.items ++ map (message_of member.now symbol.now) reports.now) }
+    ensures { OnOk result (messages.new ≡ messages.old ++ map (message_of member.now symbol.now) reports.now) }
 {
     for report in reports {
-        messages.push(message_of(alloc, member, symbol, report)?)?;
+        let body = ReportBody {
+            report,
+            symbol,
+            member,
+        };
+        messages.push_laid(kind(report), &body)?;
     }
     Ok(())
 }
@@ -100,12 +105,11 @@ pub struct Reader<'a> {
 /// Adds the member's reports of a symbol from a position on, as messages, and answers how many reports there are.
 #[tactic(auto, unfolding(crate::specs::Reporting::messages_at))]
 fn look<F: Floor>(
-    alloc: Global,
     floor: &mut F,
     reader: Reader<'_>,
     symbol: u32,
     from: u32,
-    messages: &mut Vec<Message>,
+    messages: &mut MessageList,
 ) -> Result<u32, NoMemory>
     requires config { IsConfig reader.config.now }
     requires setup { IsSetUpFor reader.config.now (F.mark floor.old).setup }
@@ -115,7 +119,7 @@ fn look<F: Floor>(
     ensures others { (other : ℕ) → other ≢ symbol → F.at floor.new other ≡ F.at floor.old other }
     ensures waited { Waited (F.at floor.old symbol) (F.at floor.new symbol) }
     ensures turns { OnOk result (TurnsRose (F.at floor.old symbol).turns (F.at floor.new symbol).turns) }
-    ensures messages { OnOk result (messages.new.items ≡ messages.old.items
+    ensures messages { OnOk result (messages.new ≡ messages.old
         ++ messages_at reader.entry.config.now reader.entry.member (name_at reader.entry.config.now.symbols symbol) from
         (F.at floor.new symbol).reports) }
     ensures front { IfOk result (λ front. front ≡ length (F.at floor.new symbol).reports) }
@@ -123,23 +127,22 @@ fn look<F: Floor>(
     let look = floor.reports_after(symbol, reader.member, from)?;
     let name = name_at(reader.config.symbols.as_slice(), symbol);
     let own = name_at(reader.config.members.as_slice(), reader.member);
-    push_messages(alloc, messages, own, name, look.reports.as_slice())?;
+    push_messages(messages, own, name, look.reports.as_slice())?;
     Ok(look.front)
 }
 
 /// Adds all reports of the member past the cursors, as messages, and the cursors behind them. After a refusal some of
 /// both may be added.
 pub fn look_all<F: Floor>(
-    alloc: Global,
     floor: &mut F,
     reader: Reader<'_>,
-    messages: &mut Vec<Message>,
+    messages: &mut MessageList,
     fronts: &mut Vec<u32>,
 ) -> Result<(), NoMemory>
     requires config { IsConfig reader.config.now }
     requires setup { IsSetUpFor reader.config.now (F.mark floor.old).setup }
     requires member { reader.member < length reader.config.now.members }
-    requires messages { messages.old.items ≡ [] }
+    requires messages { messages.old ≡ [] }
     requires fronts { fronts.old.items ≡ [] }
     ensures mark { F.mark floor.new ≡ F.mark floor.old }
     ensures waited { (symbol : ℕ) → Waited (F.at floor.old symbol) (F.at floor.new symbol) }
@@ -147,7 +150,7 @@ pub fn look_all<F: Floor>(
         → F.at floor.new symbol ≡ F.at floor.old symbol }
     ensures turns { OnOk result ((symbol : ℕ) → symbol < length reader.entry.config.now.symbols
         → TurnsRose (F.at floor.old symbol).turns (F.at floor.new symbol).turns) }
-    ensures messages { OnOk result (messages.new.items
+    ensures messages { OnOk result (messages.new
         ≡ messages_past reader.entry.config.now reader.entry.member reader.entry.cursors.now
         (λ symbol. (F.at floor.new symbol).reports)) }
     ensures fronts { OnOk result (MovedOn (length reader.entry.config.now.symbols) (λ symbol. (F.at floor.new symbol).reports)
@@ -156,7 +159,7 @@ pub fn look_all<F: Floor>(
     let count = reader.config.symbols.len();
     for symbol in 0..count {
         let from = cursor_at(reader.cursors, symbol);
-        let front = look(alloc, floor, reader, symbol as u32, from, messages)?;
+        let front = look(floor, reader, symbol as u32, from, messages)?;
         fronts.push(from.max(front))?;
     }
     fronts.extend_from_slice(behind(reader.cursors, count))?;
@@ -177,11 +180,10 @@ struct KnownSymbol {
 /// Adds the member's reports of a symbol past those that were gone through, as messages, where it is asked and has more, and
 /// answers how many reports there are.
 fn look_where_past<F: Floor>(
-    alloc: Global,
     floor: &mut F,
     reader: Reader<'_>,
     known: KnownSymbol,
-    messages: &mut Vec<Message>,
+    messages: &mut MessageList,
 ) -> Result<u32, NoMemory>
     requires config { IsConfig reader.config.now }
     requires setup { IsSetUpFor reader.config.now (F.mark floor.old).setup }
@@ -195,13 +197,13 @@ fn look_where_past<F: Floor>(
         → F.at floor.new known.symbol ≡ F.at floor.old known.symbol }
     ensures turns { OnOk result (known.asked ≡ true → known.from < length (F.at floor.old known.symbol).reports
         → TurnsRose (F.at floor.old known.symbol).turns (F.at floor.new known.symbol).turns) }
-    ensures messages { OnOk result (messages.new.items ≡ messages.old.items
+    ensures messages { OnOk result (messages.new ≡ messages.old
         ++ messages_at reader.entry.config.now reader.entry.member (name_at reader.entry.config.now.symbols known.symbol)
         known.from (where_asked known.asked (F.at floor.new known.symbol).reports)) }
     ensures front { IfOk result (λ front. front ≡ length (F.at floor.new known.symbol).reports) }
 {
     if known.asked && known.from < known.front {
-        look(alloc, floor, reader, known.symbol, known.from, messages)
+        look(floor, reader, known.symbol, known.from, messages)
     } else {
         Ok(known.front)
     }
@@ -210,11 +212,10 @@ fn look_where_past<F: Floor>(
 /// As `look_all`, where it is known how many reports each symbol has: only symbols that are asked, and have reports past the
 /// cursor, are looked at.
 pub fn look_past<F: Floor>(
-    alloc: Global,
     floor: &mut F,
     reader: Reader<'_>,
     awaited: Awaited<'_>,
-    messages: &mut Vec<Message>,
+    messages: &mut MessageList,
     fronts: &mut Vec<u32>,
 ) -> Result<(), NoMemory>
     requires config { IsConfig reader.config.now }
@@ -222,7 +223,7 @@ pub fn look_past<F: Floor>(
     requires member { reader.member < length reader.config.now.members }
     requires awaited { AreFronts (length reader.config.now.symbols) (λ symbol. (F.at floor.old symbol).reports)
         awaited.fronts.now }
-    requires messages { messages.old.items ≡ [] }
+    requires messages { messages.old ≡ [] }
     requires fronts { fronts.old.items ≡ [] }
     ensures mark { F.mark floor.new ≡ F.mark floor.old }
     ensures waited { (symbol : ℕ) → Waited (F.at floor.old symbol) (F.at floor.new symbol) }
@@ -236,7 +237,7 @@ pub fn look_past<F: Floor>(
         → asked_at awaited.entry.asked.now symbol ≡ true
         → cursor_at reader.entry.cursors.now symbol < length (F.at floor.old symbol).reports
         → TurnsRose (F.at floor.old symbol).turns (F.at floor.new symbol).turns) }
-    ensures messages { OnOk result (messages.new.items ≡ messages_past reader.entry.config.now reader.entry.member
+    ensures messages { OnOk result (messages.new ≡ messages_past reader.entry.config.now reader.entry.member
         reader.entry.cursors.now (asked_reports awaited.entry.asked.now (λ symbol. (F.at floor.new symbol).reports))) }
     ensures fronts { OnOk result (MovedOn (length reader.entry.config.now.symbols) (λ symbol. (F.at floor.new symbol).reports)
         reader.entry.cursors.now fronts.new.items) }
@@ -251,7 +252,7 @@ pub fn look_past<F: Floor>(
             front: awaited.fronts[symbol],
             asked,
         };
-        let front = look_where_past(alloc, floor, reader, known, messages)?;
+        let front = look_where_past(floor, reader, known, messages)?;
         let moved = from.max(front);
         fronts.push(moved)?;
     }

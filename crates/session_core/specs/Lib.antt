@@ -12,6 +12,7 @@ pub mod Laws
 pub mod Logon
 pub mod Lookup
 pub mod Machine
+pub mod MessageLists
 pub mod Plan
 pub mod Resend
 pub mod Resent

@@ -3,6 +3,7 @@ ghost use Rattle.std.specs.Prelude.{◌≡◌, IfOk, OnOk, OnErr, IsOk};
 ghost use Rattle.std.specs.List.{AllByRecursion};
 
 use crate::message::Message;
+use crate::message_list::MessageList;
 use crate::session::Session;
 use crate::turn::Turn;
 use fix_write::MessageType;
@@ -56,7 +57,8 @@ impl Session {
         if !self.is_up() {
             return Ok(self.quiet());
         }
-        let frames = self.send_all(messages, moment)?;
+        let list = MessageList::of(self.allocator(), messages)?;
+        let frames = self.send_all(&list, moment)?;
         Ok(self.sending(frames))
     }
 

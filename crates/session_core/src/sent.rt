@@ -1,24 +1,13 @@
-//! What is kept of the messages that were sent. All bodies stand in one list, one behind the other, so that a message
-//! costs no memory of its own, and all are given back at once.
-ghost use Rattle.std.specs.Prelude.{◌≡◌, ◌+◌, ◌++◌, ◌∷◌, [], Some, OnOk, OnErr, length, All};
-ghost use Rattle.session_core.specs.Frames.{all_kept};
-ghost use Rattle.session_core.specs.Sent.{IsWithin, Begins, entries_in, no_places};
+//! What is kept of the messages that were sent.
+ghost use Rattle.std.specs.Prelude.{◌≡◌, ◌+◌, ◌^◌, ◌<◌, ◌≤◌, ◌++◌, IfOk, OnOk, OnErr, vec_len, vec_capacity, replicate};
+ghost use Rattle.session_core.specs.Sent.{no_places, places_from};
 
-use crate::message::Message;
+use crate::message_list::MessageList;
 use fix_write::MessageType;
 use std::alloc::Global;
 use std::marker::Model;
+use std::mem::size_of;
 use venue_words::NoMemory;
-
-/// An application message, without its body: this stands in the list of the bodies, from `start` to before `end`.
-#[derive(Clone, Copy)]
-pub(crate) struct Place {
-    kind: MessageType,
-    /// When it was first sent, in milliseconds since 1970-01-01 00:00 UTC.
-    moment: i64,
-    start: usize,
-    end: usize,
-}
 
 /// An application message that is kept, with its body where it stands.
 #[derive(Drop)]
@@ -36,65 +25,24 @@ impl<'a> Model for Stored<'a> {
     ghost view = { λ s. record { message = record { kind = s.kind; body = s.body.now }; moment = s.moment } };
 }
 
-/// Adds a message. Nothing changes where memory is wanted.
-fn push_one(
-    bodies: &mut Vec<u8>,
-    places: &mut Vec<Option<Place>>,
-    kind: MessageType,
-    body: &[u8],
-    moment: i64,
-) -> Result<(), NoMemory>
-    ensures bodies { OnOk result (bodies.new.items ≡ bodies.old.items ++ body.now) }
-    ensures places { OnOk result (places.new.items ≡ places.old.items ++ Some (record {
-      kind = kind;
-      moment = moment;
-      start = length bodies.old.items;
-      end = length bodies.old.items + length body.now;
-    }) ∷ []) }
-    ensures same_bodies { OnErr result (bodies.new.items ≡ bodies.old.items) }
-    ensures same_places { OnErr result (places.new.items ≡ places.old.items) }
-{
-    places.reserve(1)?;
-    let start = bodies.len();
-    bodies.extend_from_slice(body)?;
-    places.push_reserved(Some(Place {
-        kind,
-        moment,
-        start,
-        end: bodies.len(),
-    }));
-    Ok(())
-}
+/// Which of the application messages was sent under a number, if one was.
+type Place = Option<u32>;
 
-/// Adds messages, and where memory is wanted maybe some of them. What stood there before stays.
-#[tactic(auto, using(crate::proofs::SentBodies::begins_same))]
-fn push_each(
-    bodies: &mut Vec<u8>,
-    places: &mut Vec<Option<Place>>,
-    messages: &[Message],
-    moment: i64,
-) -> Result<(), NoMemory>
-    requires { All (IsWithin (length bodies.old.items)) places.old.items }
-    ensures within { OnOk result (All (IsWithin (length bodies.new.items)) places.new.items) }
-    ensures listed { OnOk result (entries_in bodies.new.items places.new.items
-        ≡ entries_in bodies.old.items places.old.items ++ all_kept moment messages.now) }
-    ensures bodies { Begins bodies.old.items bodies.new.items }
-    ensures places { Begins places.old.items places.new.items }
+// A session that only beats grows by as much with each message.
+const _: () = prove!(size_of::<Place>() == 8);
+
+/// A count of messages in four bytes. More than 4,294,967,295 messages would want more memory than there is.
+fn small_count(count: usize) -> Result<u32, NoMemory>
+    ensures { IfOk result (λ small. small ≡ count) }
 {
-    for message in messages {
-        push_one(
-            bodies,
-            places,
-            message.kind,
-            message.body.as_slice(),
-            moment,
-        )?;
+    match u32::try_from(count) {
+        Ok(small) => Ok(small),
+        Err(_) => Err(NoMemory),
     }
-    Ok(())
 }
 
 /// Adds so many times nothing. Nothing changes where memory is wanted.
-fn push_none(places: &mut Vec<Option<Place>>, count: usize) -> Result<(), NoMemory>
+fn push_none(places: &mut Vec<Place>, count: usize) -> Result<(), NoMemory>
     ensures ok { OnOk result (places.new.items ≡ places.old.items ++ no_places count) }
     ensures err { OnErr result (places.new.items ≡ places.old.items) }
 {
@@ -105,24 +53,46 @@ fn push_none(places: &mut Vec<Option<Place>>, count: usize) -> Result<(), NoMemo
     Ok(())
 }
 
+/// Adds places from one on, for which there is room, and for each of them the moment.
+fn push_places(places: &mut Vec<Place>, moments: &mut Vec<i64>, first: u32, count: u32, moment: i64)
+    requires small { first + count < 2 ^ 32 }
+    requires room { vec_len places.old + count ≤ vec_capacity places.old }
+    requires room_of_moments { vec_len moments.old + count ≤ vec_capacity moments.old }
+    ensures places { places.new.items ≡ places.old.items ++ places_from first count }
+    ensures moments { moments.new.items ≡ moments.old.items ++ replicate count moment }
+{
+    for i in 0..count {
+        places.push_reserved(Some(first + i));
+        moments.push_reserved(moment);
+    }
+}
+
 /// What is kept of each message that was sent: an application message whole, and of a message of the session nothing.
 /// Contracts see it as a list of these.
 #[derive(Drop)]
 pub(crate) struct SentMessages {
-    bodies: Vec<u8>,
-    places: Vec<Option<Place>>,
+    /// The application messages.
+    messages: MessageList,
+    /// When each of them was first sent, in milliseconds since 1970-01-01 00:00 UTC.
+    moments: Vec<i64>,
+    /// By number from 1 on, which of the application messages was sent. A message of the session has its eight bytes here, and
+    /// nothing else.
+    places: Vec<Place>,
 }
 
 impl Model for SentMessages {
-    ghost use Rattle.std.specs.Prelude.{List, Option, length, All};
+    ghost use Rattle.std.specs.Prelude.{◌≡◌, List, Option, length, All};
     ghost use Rattle.session_core.specs.declared.message.Kept.{Kept};
-    ghost use Rattle.session_core.specs.Sent.{IsWithin, entries_in};
+    ghost use Rattle.session_core.specs.Sent.{IsAmong, entries_in};
 
     ghost Value = { List (Option Kept) };
 
-    ghost view = { λ s. entries_in s.bodies.items s.places.items };
+    ghost view = { λ s. entries_in s.messages s.moments.items s.places.items };
 
-    ghost invariant = { λ s. All (IsWithin (length s.bodies.items)) s.places.items };
+    ghost invariant = { λ s. record {
+      among : All (IsAmong (length s.messages)) s.places.items;
+      each : length s.moments.items ≡ length s.messages;
+    } };
 }
 
 impl SentMessages {
@@ -135,7 +105,8 @@ impl SentMessages {
         ensures { result ≡ [] }
     {
         SentMessages {
-            bodies: Vec::new(alloc),
+            messages: MessageList::new(alloc),
+            moments: Vec::new(alloc),
             places: Vec::new(alloc),
         }
     }
@@ -155,11 +126,14 @@ impl SentMessages {
     {
         match self.places[index] {
             None => None,
-            Some(place) => Some(Stored {
-                kind: place.kind,
-                body: &self.bodies[place.start..place.end],
-                moment: place.moment,
-            }),
+            Some(place) => {
+                let message = self.messages.get(place as usize);
+                Some(Stored {
+                    kind: message.kind,
+                    body: message.body,
+                    moment: self.moments[place as usize],
+                })
+            }
         }
     }
 
@@ -176,23 +150,29 @@ impl SentMessages {
         ensures ok { OnOk result (self.new ≡ self.old ++ kept moment (message kind body.now) ∷ []) }
         ensures err { OnErr result (self.new ≡ self.old) }
     {
-        push_one(&mut self.bodies, &mut self.places, kind, body, moment)
+        let place = small_count(self.messages.len())?;
+        self.places.reserve(1)?;
+        self.moments.reserve(1)?;
+        self.messages.push(kind, body)?;
+        self.places.push_reserved(Some(place));
+        self.moments.push_reserved(moment);
+        Ok(())
     }
 
     /// Keeps application messages. Nothing changes where memory is wanted.
-    pub fn push_all(&mut self, messages: &[Message], moment: i64) -> Result<(), NoMemory>
+    pub fn push_all(&mut self, messages: &MessageList, moment: i64) -> Result<(), NoMemory>
         ensures ok { OnOk result (self.new ≡ self.old ++ all_kept moment messages.now) }
         ensures err { OnErr result (self.new ≡ self.old) }
     {
-        let bytes = self.bodies.len();
-        let count = self.places.len();
-        match push_each(&mut self.bodies, &mut self.places, messages, moment) {
-            Ok(()) => Ok(()),
-            Err(_) => {
-                self.bodies.truncate(bytes);
-                self.places.truncate(count);
-                Err(NoMemory)
-            }
+        let first = small_count(self.messages.len())?;
+        let count = small_count(messages.len())?;
+        if count > u32::MAX - first {
+            return Err(NoMemory);
         }
+        self.places.reserve(count as usize)?;
+        self.moments.reserve(count as usize)?;
+        self.messages.append(messages)?;
+        push_places(&mut self.places, &mut self.moments, first, count, moment);
+        Ok(())
     }
 }

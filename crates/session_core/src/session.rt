@@ -5,9 +5,10 @@ use crate::answers::drops;
 use crate::bodies::reject;
 use crate::cases::{on_message, on_tick, on_too_long};
 use crate::content::content_of;
-use crate::frames::{new_frame, push_new_frames};
+use crate::frames::{new_frame, push_listed_frames, push_new_frames};
 use crate::lookup::{kind_of, message_number};
-use crate::message::{Incoming, Message};
+use crate::message::Incoming;
+use crate::message_list::MessageList;
 use crate::plan::Plan;
 use crate::resent::frames_of_span;
 use crate::sent::SentMessages;
@@ -380,7 +381,7 @@ impl Session {
 
     /// Does what `send` does for each message in its order. Nothing changes where memory is wanted.
     #[tactic(auto, unfolding(crate::specs::Machine::on_send))]
-    pub fn send_all(&mut self, messages: &[Message], moment: i64) -> Result<Vec<Bytes>, NoMemory>
+    pub fn send_all(&mut self, messages: &MessageList, moment: i64) -> Result<Vec<Bytes>, NoMemory>
         requires { IsUp self.old }
         ensures machine { OnOk result (self.new ≡ (on_send self.old messages.now moment).machine) }
         ensures replies { IfOk result (λ frames. frames.items
@@ -389,7 +390,7 @@ impl Session {
     {
         let first = self.sent.len() as u64 + 1;
         let mut frames = Vec::new(self.alloc);
-        push_new_frames(&mut frames, self.member.as_slice(), moment, first, messages)?;
+        push_listed_frames(&mut frames, self.member.as_slice(), moment, first, messages)?;
         self.sent.push_all(messages, moment)?;
         self.state = sent_now(moment, &frames, self.state);
         Ok(frames)

@@ -30,8 +30,8 @@ loop-member-preserved g c =
       waited = waited_then (at c.args.floor.now symbol) (at c.loop-member.floor symbol) next inv.waited c.look.ensures.waited;
       looked =
           row_more (g.F.Floor.reports_in (g.F.Floor.mark c.args.floor.now) symbol) c.args.listed.config.now symbol c.args.listed.members.now c.args.listed.cursors.now
-          (at c.args.floor.now symbol) c.args.messages.now.items c.args.moved.now.items
-          (at c.loop-member.floor symbol) next c.loop-member.messages.items c.look.new.messages.items c.loop-member.moved.items c.push.new.self.items
+          (at c.args.floor.now symbol) c.args.messages.now c.args.moved.now.items
+          (at c.loop-member.floor symbol) next c.loop-member.messages c.look.new.messages c.loop-member.moved.items c.push.new.self.items
           c.loop-member.member-index c.cursor_at-from.result c.in_ok-front.front _
           inv.looked inv.waited c.look.ensures.waited c.in_ok-front.ensures.turns
           (c.look.ensures.made ∙ ap (λ (k : FloorMark). g.F.Floor.reports_in k symbol next.journal) inv.mark)

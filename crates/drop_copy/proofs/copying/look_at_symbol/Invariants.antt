@@ -11,5 +11,5 @@ invariant-loop-member g l = record {
   waited : Waited (g.F.Floor.at l.initial.floor l.symbol) (g.F.Floor.at l.floor l.symbol);
   looked : LookedSoFar (g.F.Floor.reports_in (g.F.Floor.mark l.initial.floor) l.symbol) l.listed.config.now l.symbol l.listed.members.now l.listed.cursors.now
       (g.F.Floor.at l.initial.floor l.symbol) (g.F.Floor.at l.floor l.symbol)
-      l.initial.messages.items l.messages.items l.initial.moved.items l.moved.items l.member-index;
+      l.initial.messages l.messages l.initial.moved.items l.moved.items l.member-index;
 }

@@ -5,4 +5,4 @@ use Rattle.drop_copy.proofs.copying.push_copies.Given as goal
 
 abbrev pub invariant-loop-report : goal.invariant-loop-report
 invariant-loop-report l =
-    l.messages.items ≡ l.initial.messages.items ++ map (copy_of l.member l.symbol) (take l.report-index l.reports)
+    l.messages ≡ l.initial.messages ++ map (copy_of l.member l.symbol) (take l.report-index l.reports)

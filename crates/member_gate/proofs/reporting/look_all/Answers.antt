@@ -15,11 +15,11 @@ loop-symbol-preserved g c =
     let symbol = c.loop-symbol.symbol in
     let fronts = c.loop-symbol.fronts.items in
     let inside : symbol < length config.symbols = omega arith in
-    let messages = c.loop-symbol.messages.items in
+    let messages = c.loop-symbol.messages in
     let reports = (g.F.Floor.at c.look.new.floor symbol).reports in record {
       mark = c.look.ensures.mark ∙ c.loop-symbol.invariant.mark;
       looked =
-          looked_more g.F.Floor.at config c.args.reader.member c.args.reader.cursors.now all_seen each_rose c.args.floor.now symbol c.loop-symbol.floor c.look.new.floor messages c.look.new.messages.items fronts c.push.new.self.items c.in_ok-front.front
+          looked_more g.F.Floor.at config c.args.reader.member c.args.reader.cursors.now all_seen each_rose c.args.floor.now symbol c.loop-symbol.floor c.look.new.floor messages c.look.new.messages fronts c.push.new.self.items c.in_ok-front.front
           c.loop-symbol.invariant.looked inside c.look.ensures.others c.look.ensures.waited c.in_ok-front.ensures.turns
           (c.in_ok-front.ensures.messages ∙ ap (λ (from : ℕ). messages ++ messages_at config c.args.reader.member (name_at config.symbols symbol) from reports) c.cursor_at-from.ensures)
           c.in_ok-front.ensures.front
@@ -31,8 +31,8 @@ returns-clause-fronts g c =
     let config = c.args.reader.config.now in
     let floor = c.loop-symbol.floor in
     let all : c.loop-symbol.symbol ≡ length config.symbols = omega arith in
-    let looked = subst (λ (k : ℕ). Looked g.F.Floor.at config c.args.reader.member c.args.reader.cursors.now all_seen each_rose c.args.floor.now k floor c.loop-symbol.messages.items c.loop-symbol.fronts.items) all c.loop-symbol.invariant.looked in
-    moved_on g.F.Floor.at config c.args.reader.member c.args.reader.cursors.now all_seen each_rose c.args.floor.now floor c.loop-symbol.messages.items c.loop-symbol.fronts.items _ looked
+    let looked = subst (λ (k : ℕ). Looked g.F.Floor.at config c.args.reader.member c.args.reader.cursors.now all_seen each_rose c.args.floor.now k floor c.loop-symbol.messages c.loop-symbol.fronts.items) all c.loop-symbol.invariant.looked in
+    moved_on g.F.Floor.at config c.args.reader.member c.args.reader.cursors.now all_seen each_rose c.args.floor.now floor c.loop-symbol.messages c.loop-symbol.fronts.items _ looked
     (c.in_ok-extend_from_slice.ensures.items ∙ ap (λ (xs : List ℕ). c.loop-symbol.fronts.items ++ xs) (c.behind.ensures ∙ ap (λ (k : ℕ). drop k c.args.reader.cursors.now) c.len-count.ensures))
 
 -- what the floor shows behind a look that failed, or behind a cursor that found no room
@@ -85,5 +85,5 @@ returns-clause-messages g c =
     let config = c.args.reader.config.now in
     let floor = c.loop-symbol.floor in
     let all : c.loop-symbol.symbol ≡ length config.symbols = omega arith in
-    let looked = subst (λ (k : ℕ). Looked g.F.Floor.at config c.args.reader.member c.args.reader.cursors.now all_seen each_rose c.args.floor.now k floor c.loop-symbol.messages.items c.loop-symbol.fronts.items) all c.loop-symbol.invariant.looked in
-    all_messages g.F.Floor.at config c.args.reader.member c.args.reader.cursors.now all_seen each_rose c.args.floor.now floor c.loop-symbol.messages.items c.loop-symbol.fronts.items looked
+    let looked = subst (λ (k : ℕ). Looked g.F.Floor.at config c.args.reader.member c.args.reader.cursors.now all_seen each_rose c.args.floor.now k floor c.loop-symbol.messages c.loop-symbol.fronts.items) all c.loop-symbol.invariant.looked in
+    all_messages g.F.Floor.at config c.args.reader.member c.args.reader.cursors.now all_seen each_rose c.args.floor.now floor c.loop-symbol.messages c.loop-symbol.fronts.items looked

@@ -7,5 +7,5 @@ use Rattle.member_gate.proofs.reporting.look_all.Given as goal
 abbrev pub invariant-loop-symbol : goal.invariant-loop-symbol
 invariant-loop-symbol g l = record {
   mark : g.F.Floor.mark l.floor ≡ g.F.Floor.mark l.initial.floor;
-  looked : Looked g.F.Floor.at l.reader.config.now l.reader.member l.reader.cursors.now all_seen (λ _ before after. TurnsRose before.turns after.turns) l.initial.floor l.symbol l.floor l.messages.items l.fronts.items;
+  looked : Looked g.F.Floor.at l.reader.config.now l.reader.member l.reader.cursors.now all_seen (λ _ before after. TurnsRose before.turns after.turns) l.initial.floor l.symbol l.floor l.messages l.fronts.items;
 }

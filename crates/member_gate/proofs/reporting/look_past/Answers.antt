@@ -23,11 +23,11 @@ loop-symbol-preserved g c =
     let symbol = c.loop-symbol.symbol in
     let fronts = c.loop-symbol.fronts.items in
     let inside : symbol < length config.symbols = omega arith in
-    let messages = c.loop-symbol.messages.items in
+    let messages = c.loop-symbol.messages in
     let reports = (g.F.Floor.at c.look_where_past.new.floor symbol).reports in record {
       mark = c.look_where_past.ensures.mark ∙ c.loop-symbol.invariant.mark;
       looked =
-          looked_more g.F.Floor.at config c.args.reader.member c.args.reader.cursors.now (asked_seen c.args.awaited.asked.now) (for_news c.args.awaited.asked.now c.args.reader.cursors.now) c.args.floor.now symbol c.loop-symbol.floor c.look_where_past.new.floor messages c.look_where_past.new.messages.items fronts c.push.new.self.items c.in_ok-front.front
+          looked_more g.F.Floor.at config c.args.reader.member c.args.reader.cursors.now (asked_seen c.args.awaited.asked.now) (for_news c.args.awaited.asked.now c.args.reader.cursors.now) c.args.floor.now symbol c.loop-symbol.floor c.look_where_past.new.floor messages c.look_where_past.new.messages fronts c.push.new.self.items c.in_ok-front.front
           c.loop-symbol.invariant.looked inside c.look_where_past.ensures.others c.look_where_past.ensures.waited
           (news g.F.Floor.at c.args.awaited.asked.now c.args.reader.cursors.now symbol c.cursor_at-from.result c.is_asked-asked.result c.loop-symbol.floor c.look_where_past.new.floor c.cursor_at-from.ensures
           c.is_asked-asked.ensures c.look_where_past.ensures.unasked c.in_ok-front.ensures.turns)
@@ -43,8 +43,8 @@ returns-clause-fronts g c =
     let config = c.args.reader.config.now in
     let floor = c.loop-symbol.floor in
     let all : c.loop-symbol.symbol ≡ length config.symbols = omega arith in
-    let looked = subst (λ (k : ℕ). Looked g.F.Floor.at config c.args.reader.member c.args.reader.cursors.now (asked_seen c.args.awaited.asked.now) (for_news c.args.awaited.asked.now c.args.reader.cursors.now) c.args.floor.now k floor c.loop-symbol.messages.items c.loop-symbol.fronts.items) all c.loop-symbol.invariant.looked in
-    moved_on g.F.Floor.at config c.args.reader.member c.args.reader.cursors.now (asked_seen c.args.awaited.asked.now) (for_news c.args.awaited.asked.now c.args.reader.cursors.now) c.args.floor.now floor c.loop-symbol.messages.items c.loop-symbol.fronts.items _ looked
+    let looked = subst (λ (k : ℕ). Looked g.F.Floor.at config c.args.reader.member c.args.reader.cursors.now (asked_seen c.args.awaited.asked.now) (for_news c.args.awaited.asked.now c.args.reader.cursors.now) c.args.floor.now k floor c.loop-symbol.messages c.loop-symbol.fronts.items) all c.loop-symbol.invariant.looked in
+    moved_on g.F.Floor.at config c.args.reader.member c.args.reader.cursors.now (asked_seen c.args.awaited.asked.now) (for_news c.args.awaited.asked.now c.args.reader.cursors.now) c.args.floor.now floor c.loop-symbol.messages c.loop-symbol.fronts.items _ looked
     (c.in_ok-extend_from_slice.ensures.items ∙ ap (λ (xs : List ℕ). c.loop-symbol.fronts.items ++ xs) (c.behind.ensures ∙ ap (λ (k : ℕ). drop k c.args.reader.cursors.now) c.len-count.ensures))
 
 -- what the floor shows behind a look that failed, or behind a cursor that found no room
@@ -97,8 +97,8 @@ returns-clause-messages g c =
     let config = c.args.reader.config.now in
     let floor = c.loop-symbol.floor in
     let all : c.loop-symbol.symbol ≡ length config.symbols = omega arith in
-    let looked = subst (λ (k : ℕ). Looked g.F.Floor.at config c.args.reader.member c.args.reader.cursors.now (asked_seen c.args.awaited.asked.now) (for_news c.args.awaited.asked.now c.args.reader.cursors.now) c.args.floor.now k floor c.loop-symbol.messages.items c.loop-symbol.fronts.items) all c.loop-symbol.invariant.looked in
-    all_messages g.F.Floor.at config c.args.reader.member c.args.reader.cursors.now (asked_seen c.args.awaited.asked.now) (for_news c.args.awaited.asked.now c.args.reader.cursors.now) c.args.floor.now floor c.loop-symbol.messages.items c.loop-symbol.fronts.items looked
+    let looked = subst (λ (k : ℕ). Looked g.F.Floor.at config c.args.reader.member c.args.reader.cursors.now (asked_seen c.args.awaited.asked.now) (for_news c.args.awaited.asked.now c.args.reader.cursors.now) c.args.floor.now k floor c.loop-symbol.messages c.loop-symbol.fronts.items) all c.loop-symbol.invariant.looked in
+    all_messages g.F.Floor.at config c.args.reader.member c.args.reader.cursors.now (asked_seen c.args.awaited.asked.now) (for_news c.args.awaited.asked.now c.args.reader.cursors.now) c.args.floor.now floor c.loop-symbol.messages c.loop-symbol.fronts.items looked
 
 -- a symbol without news stays
 

@@ -15,4 +15,4 @@ returns-else-known-clause-messages g c =
     ] in
     let none = no_messages c.args.reader.config.now c.args.reader.member (name_at c.args.reader.config.now.symbols c.args.known.symbol) c.args.known.from
     (g.F.Floor.at c.args.floor.now c.args.known.symbol).reports c.args.known.asked read in
-    sym (ap (λ (more : List Message). c.args.messages.now.items ++ more) none ∙ append-nil c.args.messages.now.items)
+    sym (ap (λ (more : List Message). c.args.messages.now ++ more) none ∙ append-nil c.args.messages.now)

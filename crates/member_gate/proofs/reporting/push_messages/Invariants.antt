@@ -5,4 +5,4 @@ use Rattle.member_gate.proofs.reporting.push_messages.Given as goal
 
 abbrev pub invariant-loop-report : goal.invariant-loop-report
 invariant-loop-report l =
-    l.messages.items ≡ l.initial.messages.items ++ map (message_of l.member l.symbol) (take l.report-index l.reports)
+    l.messages ≡ l.initial.messages ++ map (message_of l.member l.symbol) (take l.report-index l.reports)

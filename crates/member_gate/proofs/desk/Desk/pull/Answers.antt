@@ -13,7 +13,7 @@ returns-clause-frames g c =
     let reports = λ (symbol : ℕ). (g.F.Floor.at c.look_all.new.floor symbol).reports in
     let inside = c.self.inside in
     let moment : to_z w64 (of_z w64 c.args.moment) ≡ c.args.moment = search rules in
-    let messages = c.deref-2.ensures.value ∙ c.in_ok-look_all.ensures.messages ∙ ap (λ (cursors : List ℕ). messages_past config inside.member cursors reports) c.deref.ensures.value in
+    let messages = c.in_ok-look_all.ensures.messages ∙ ap (λ (cursors : List ℕ). messages_past config inside.member cursors reports) c.deref.ensures.value in
     subst (λ (d : DeskView). c.in_ok-frames.frames.items ≡ (send_if_up d.session (messages_past config d.member d.cursors reports) c.args.moment).turn.replies) c.self.view_is
     (sent_replies inside.session _ _ c.args.moment _ _ (c.if-not-is_up.ensures.0 refl) moment messages c.in_ok-frames.ensures.replies)
 
@@ -23,7 +23,7 @@ returns-clause-session g c =
     let reports = λ (symbol : ℕ). (g.F.Floor.at c.look_all.new.floor symbol).reports in
     let inside = c.self.inside in
     let moment : to_z w64 (of_z w64 c.args.moment) ≡ c.args.moment = search rules in
-    let messages = c.deref-2.ensures.value ∙ c.in_ok-look_all.ensures.messages ∙ ap (λ (cursors : List ℕ). messages_past config inside.member cursors reports) c.deref.ensures.value in
+    let messages = c.in_ok-look_all.ensures.messages ∙ ap (λ (cursors : List ℕ). messages_past config inside.member cursors reports) c.deref.ensures.value in
     subst (λ (d : DeskView). c.send_all.new.self ≡ (send_if_up d.session (messages_past config d.member d.cursors reports) c.args.moment).machine) c.self.view_is
     (sent_machine inside.session _ _ c.args.moment _ _ (c.if-not-is_up.ensures.0 refl) moment messages c.in_ok-frames.ensures.machine)
 
