@@ -7,9 +7,9 @@ ghost use Rattle.listing_reader.specs.Told.{told_quote, told_request, told_comma
 use crate::fields::{code_or_zero, fields_of, terms_of, told_bytes};
 use crate::words::{place_in, split_word, told_side};
 use fix_fields::Field;
+use fix_write::MessageType;
 use order_fields::tags::{CL_ORD_ID, ORIG_CL_ORD_ID, SIDE};
 use session_core::lookup::text_in;
-use session_core::message_types::{CANCEL_REQUEST, NEW_ORDER, REPLACE_REQUEST};
 use std::alloc::Global;
 use venue_words::{BoxedTerms, Bytes, Command, Config, NoMemory};
 
@@ -39,7 +39,7 @@ fn copy_of(alloc: Global, tag: u32, fields: &[Field<'_>]) -> Result<Bytes, NoMem
 #[tactic(auto, unfolding(order_fields::specs::Order::command_of))]
 fn command_of(
     alloc: Global,
-    kind: u8,
+    kind: MessageType,
     member: u32,
     fields: &[Field<'_>],
 ) -> Result<Command, NoMemory>
@@ -47,17 +47,17 @@ fn command_of(
 {
     let id = copy_of(alloc, CL_ORD_ID, fields)?;
     match kind {
-        NEW_ORDER => Ok(Command::New {
+        MessageType::NewOrder => Ok(Command::New {
             member,
             id,
             terms: BoxedTerms::new(alloc, terms_of(fields))?,
         }),
-        CANCEL_REQUEST => Ok(Command::Cancel {
+        MessageType::CancelRequest => Ok(Command::Cancel {
             member,
             id,
             orig: copy_of(alloc, ORIG_CL_ORD_ID, fields)?,
         }),
-        REPLACE_REQUEST => Ok(Command::Replace {
+        MessageType::ReplaceRequest => Ok(Command::Replace {
             member,
             id,
             orig: copy_of(alloc, ORIG_CL_ORD_ID, fields)?,
@@ -73,7 +73,12 @@ fn command_of(
 
 /// What a member asks in a message of this type, by the words behind the type.
 #[tactic(auto, unfolding(crate::specs::Told::told_request))]
-fn told_request(alloc: Global, kind: u8, text: &[u8], config: &Config) -> Result<Command, NoMemory>
+fn told_request(
+    alloc: Global,
+    kind: MessageType,
+    text: &[u8],
+    config: &Config,
+) -> Result<Command, NoMemory>
     requires { length config.now.members < 2 ^ 32 }
     ensures { IfOk result (λ command. command ≡ told_request config.now kind text.now) }
 {
@@ -102,9 +107,9 @@ pub fn told_command(alloc: Global, text: &[u8], config: &Config) -> Result<Comma
     ensures { IfOk result (λ command. command ≡ told_command config.now text.now) }
 {
     let (_, behind) = split_word(text);
-    let kind = first_byte(text);
-    if kind == b'Q' {
+    let first = first_byte(text);
+    if first == b'Q' {
         return Ok(told_quote(behind, config));
     }
-    told_request(alloc, kind, behind, config)
+    told_request(alloc, MessageType::of_byte(first), behind, config)
 }
