@@ -7,6 +7,8 @@ use Rattle.venue_words.specs.declared.command.Command.TheVariants.{Quote, New, C
 use Rattle.venue_words.specs.declared.command.Terms.{Terms}
 use Rattle.venue_words.specs.declared.config.Config.{Config}
 use Rattle.venue_words.specs.Conditions.{IsConfig, fits_id, fits_quote}
+use Rattle.fix_write.specs.declared.message_type.MessageType.{MessageType}
+use Rattle.fix_write.specs.declared.message_type.MessageType.TheVariants.{NewOrder, CancelRequest, ReplaceRequest, StatusRequest}
 use Rattle.fix_write.specs.Fields.{field}
 use Rattle.fix_write.specs.MessageTypes.{byte_of, type_of}
 use Rattle.exec_reports.specs.Bodies.{byte}
@@ -65,18 +67,19 @@ quote_read config market bid offer c w l b o =
 
 -- ---- requests
 
-request_read : (config : Config) (kind member : ℕ) (es : List Entry) → IsConfig config → HasWords config → member < length config.members
-    → AreGood es → length es ≤ 20 → eqb kind 81 ≡ false → eqb kind 32 ≡ false
-    → told_command config (request_text kind (name_at config.members member) (spelled es)) ≡ command_of (type_of kind) member (as_fields es)
+request_read : (config : Config) (kind : MessageType) (member : ℕ) (es : List Entry) → IsConfig config → HasWords config → member < length config.members
+    → AreGood es → length es ≤ 20 → eqb (byte_of kind) 81 ≡ false → eqb (byte_of kind) 32 ≡ false → type_of (byte_of kind) ≡ kind
+    → told_command config (request_text kind (name_at config.members member) (spelled es)) ≡ command_of kind member (as_fields es)
 unfolding told_command told_request request_text
-request_read config kind member es c w l good few other clear =
+request_read config kind member es c w l good few other clear back =
     let name = name_at config.members member in
     let text = escape_text (spelled es) in
-    let first : IsWord (kind ∷ []) = record { clear = rw clear refl } in
+    let first : IsWord (byte_of kind ∷ []) = record { clear = rw clear refl } in
     let word = name_word config.members member w.members in
     rw (
       other,
-      behind_written (kind ∷ []) (name ++ 32 ∷ text) first,
+      back,
+      behind_written (byte_of kind ∷ []) (name ++ 32 ∷ text) first,
       first_written name text word,
       behind_written name text word,
       place_written config.members member c.members l,
@@ -117,51 +120,51 @@ ids_good id orig more i o good = ((omega arith, omega arith, refl), i, ((omega a
 
 new_read : (config : Config) (member : ℕ) (id : List ℕ) (terms : Terms) → IsConfig config → HasWords config → member < length config.members
     → IsValue id → AreTerms terms
-    → told_command config (request_text 68 (name_at config.members member) (field CL_ORD_ID id ++ terms_fields terms)) ≡ New member id terms
-unfolding command_of type_of byte_of
+    → told_command config (request_text NewOrder (name_at config.members member) (field CL_ORD_ID id ++ terms_fields terms)) ≡ New member id terms
+unfolding command_of byte_of type_of
 new_read config member id terms c w l i t =
     let es = request_entries id None (term_entries terms) in
     let text : field CL_ORD_ID id ++ terms_fields terms ≡ spelled es = ap (λ (x : List ℕ). field CL_ORD_ID id ++ x) (terms_spelled terms) in
-    ap (λ (x : List ℕ). told_command config (request_text 68 (name_at config.members member) x)) text
-    ∙ request_read config 68 member es c w l (ids_good id None (term_entries terms) i tt (terms_good terms t)) (omega arith) refl refl
+    ap (λ (x : List ℕ). told_command config (request_text NewOrder (name_at config.members member) x)) text
+    ∙ request_read config NewOrder member es c w l (ids_good id None (term_entries terms) i tt (terms_good terms t)) (omega arith) refl refl refl
     ∙ (rw (text_found CL_ORD_ID es, terms_read (as_fields es) terms (has_terms id None terms) t) refl)
 
 replace_read : (config : Config) (member : ℕ) (id orig : List ℕ) (terms : Terms) → IsConfig config → HasWords config → member < length config.members
     → IsValue id → IsValue orig → AreTerms terms
-    → told_command config (request_text 71 (name_at config.members member) (field CL_ORD_ID id ++ field ORIG_CL_ORD_ID orig ++ terms_fields terms))
+    → told_command config (request_text ReplaceRequest (name_at config.members member) (field CL_ORD_ID id ++ field ORIG_CL_ORD_ID orig ++ terms_fields terms))
     ≡ Replace member id orig terms
-unfolding command_of type_of byte_of
+unfolding command_of byte_of type_of
 replace_read config member id orig terms c w l i o t =
     let es = request_entries id (Some orig) (term_entries terms) in
     let text : field CL_ORD_ID id ++ field ORIG_CL_ORD_ID orig ++ terms_fields terms ≡ spelled es =
     append_assoc (field CL_ORD_ID id) (field ORIG_CL_ORD_ID orig) (terms_fields terms)
     ∙ ap (λ (x : List ℕ). field CL_ORD_ID id ++ (field ORIG_CL_ORD_ID orig ++ x)) (terms_spelled terms) in
-    ap (λ (x : List ℕ). told_command config (request_text 71 (name_at config.members member) x)) text
-    ∙ request_read config 71 member es c w l (ids_good id (Some orig) (term_entries terms) i o (terms_good terms t)) (omega arith) refl refl
+    ap (λ (x : List ℕ). told_command config (request_text ReplaceRequest (name_at config.members member) x)) text
+    ∙ request_read config ReplaceRequest member es c w l (ids_good id (Some orig) (term_entries terms) i o (terms_good terms t)) (omega arith) refl refl refl
     ∙ (rw (text_found CL_ORD_ID es, text_found ORIG_CL_ORD_ID es, terms_read (as_fields es) terms (has_terms id (Some orig) terms) t) refl)
 
 cancel_read : (config : Config) (member : ℕ) (id orig : List ℕ) → IsConfig config → HasWords config → member < length config.members
     → IsValue id → IsValue orig
-    → told_command config (request_text 70 (name_at config.members member) (field CL_ORD_ID id ++ field ORIG_CL_ORD_ID orig)) ≡ Cancel member id orig
-unfolding command_of type_of byte_of
+    → told_command config (request_text CancelRequest (name_at config.members member) (field CL_ORD_ID id ++ field ORIG_CL_ORD_ID orig)) ≡ Cancel member id orig
+unfolding command_of byte_of type_of
 cancel_read config member id orig c w l i o =
     let es = request_entries id (Some orig) [] in
     let text : field CL_ORD_ID id ++ field ORIG_CL_ORD_ID orig ≡ spelled es =
     ap (λ (x : List ℕ). field CL_ORD_ID id ++ x) (sym (append-nil (field ORIG_CL_ORD_ID orig))) in
-    ap (λ (x : List ℕ). told_command config (request_text 70 (name_at config.members member) x)) text
-    ∙ request_read config 70 member es c w l (ids_good id (Some orig) [] i o tt) (omega arith) refl refl
+    ap (λ (x : List ℕ). told_command config (request_text CancelRequest (name_at config.members member) x)) text
+    ∙ request_read config CancelRequest member es c w l (ids_good id (Some orig) [] i o tt) (omega arith) refl refl refl
     ∙ (rw (text_found CL_ORD_ID es, text_found ORIG_CL_ORD_ID es) refl)
 
 status_read : (config : Config) (member : ℕ) (id : List ℕ) (side : ℕ) → IsConfig config → HasWords config → member < length config.members
     → IsValue id → fits_code side ≡ true
-    → told_command config (request_text 72 (name_at config.members member) (field CL_ORD_ID id ++ field SIDE (byte side))) ≡ Status member id side
-unfolding command_of type_of byte_of code_in
+    → told_command config (request_text StatusRequest (name_at config.members member) (field CL_ORD_ID id ++ field SIDE (byte side))) ≡ Status member id side
+unfolding command_of code_in byte_of type_of
 status_read config member id side c w l i s =
     let es = entry CL_ORD_ID (Some id) ∷ entry SIDE (Some (byte side)) ∷ [] in
     let text : field CL_ORD_ID id ++ field SIDE (byte side) ≡ spelled es =
     ap (λ (x : List ℕ). field CL_ORD_ID id ++ x) (sym (append-nil (field SIDE (byte side)))) in
-    ap (λ (x : List ℕ). told_command config (request_text 72 (name_at config.members member) x)) text
-    ∙ request_read config 72 member es c w l ((omega arith, omega arith, refl), i, ((omega arith, omega arith, refl), code_value side s, tt)) (omega arith) refl refl
+    ap (λ (x : List ℕ). told_command config (request_text StatusRequest (name_at config.members member) x)) text
+    ∙ request_read config StatusRequest member es c w l ((omega arith, omega arith, refl), i, ((omega arith, omega arith, refl), code_value side s, tt)) (omega arith) refl refl refl
     ∙ (rw (text_found CL_ORD_ID es, value_found SIDE es) refl)
 
 -- ---- all of them

@@ -10,6 +10,7 @@ use Rattle.venue_words.specs.declared.config.Config.{Config}
 use Rattle.fix_fields.specs.declared.field.Field.{Field}
 use Rattle.fix_fields.specs.Fields.{split}
 use Rattle.fix_fields.specs.Forms.{number_of, moment_of}
+use Rattle.fix_write.specs.declared.message_type.MessageType.{MessageType}
 use Rattle.fix_write.specs.MessageTypes.{type_of}
 use Rattle.order_fields.specs.Order.{command_of}
 use Rattle.quote_intake.specs.Price.{price_of}
@@ -62,16 +63,16 @@ unfoldable pub told_quote : Config → List ℕ → Command
 told_quote config text =
     Quote (place_in config.markets (first_word text)) (told_side (first_word (behind_word text))) (told_side (behind_word (behind_word text)))
 
--- MEMBER FIELDS, of a message of the type of this byte
-unfoldable pub told_request : Config → ℕ → List ℕ → Command
+-- MEMBER FIELDS, of a message of this type
+unfoldable pub told_request : Config → MessageType → List ℕ → Command
 told_request config kind text =
-    command_of (type_of kind) (place_in config.members (first_word text)) (told_fields (behind_word text))
+    command_of kind (place_in config.members (first_word text)) (told_fields (behind_word text))
 
 -- COMMAND
 unfoldable pub told_command : Config → List ℕ → Command
 told_command config text =
     if slice_index text 0 == 81 then told_quote config (behind_word text)
-    else told_request config (slice_index text 0) (behind_word text)
+    else told_request config (type_of (slice_index text 0)) (behind_word text)
 
 -- ---- lines
 

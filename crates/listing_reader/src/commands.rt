@@ -24,9 +24,14 @@ fn told_quote(text: &[u8], config: &Config) -> Command
     }
 }
 
-/// What a member asks in a message of the type of this byte, by the words behind it.
+/// What a member asks in a message of this type, by the words behind the type.
 #[tactic(auto, unfolding(crate::specs::Told::told_request))]
-fn told_request(alloc: Global, kind: u8, text: &[u8], config: &Config) -> Result<Command, NoMemory>
+fn told_request(
+    alloc: Global,
+    kind: MessageType,
+    text: &[u8],
+    config: &Config,
+) -> Result<Command, NoMemory>
     requires { length config.now.members < 2 ^ 32 }
     ensures { IfOk result (λ command. command ≡ told_request config.now kind text.now) }
 {
@@ -34,7 +39,7 @@ fn told_request(alloc: Global, kind: u8, text: &[u8], config: &Config) -> Result
     let member = place_in(config.members.as_slice(), member);
     let bytes = told_bytes(alloc, fields)?;
     let fields = fields_of(alloc, bytes.as_slice())?;
-    command_of(alloc, MessageType::of_byte(kind), member, fields.as_slice())
+    command_of(alloc, kind, member, fields.as_slice())
 }
 
 /// The first byte of a text, or 0.
@@ -55,9 +60,9 @@ pub fn told_command(alloc: Global, text: &[u8], config: &Config) -> Result<Comma
     ensures { IfOk result (λ command. command ≡ told_command config.now text.now) }
 {
     let (_, behind) = split_word(text);
-    let kind = first_byte(text);
-    if kind == b'Q' {
+    let first = first_byte(text);
+    if first == b'Q' {
         return Ok(told_quote(behind, config));
     }
-    told_request(alloc, kind, behind, config)
+    told_request(alloc, MessageType::of_byte(first), behind, config)
 }
