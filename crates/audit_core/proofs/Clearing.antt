@@ -14,7 +14,10 @@ use Rattle.venue_words.specs.declared.report.Report.{Report}
 use Rattle.fix_fields.specs.Tags.{numerals, no_mark}
 use Rattle.fix_write.specs.Digits.{digit, two_digits, three_digits, four_digits}
 use Rattle.fix_write.specs.Moments.{date_text, clock_text, milliseconds_of, moment_text}
-use Rattle.exec_reports.specs.Bodies.{byte, body_of, kind_code}
+use Rattle.fix_write.specs.declared.message_type.MessageType.{MessageType}
+use Rattle.fix_write.specs.declared.message_type.MessageType.TheVariants.{ExecutionReport, CancelReject, NewOrder, CancelRequest, ReplaceRequest, StatusRequest}
+use Rattle.fix_write.specs.MessageTypes.{byte_of}
+use Rattle.exec_reports.specs.Bodies.{byte, body_of, kind_of}
 use Rattle.exec_reports.specs.Parts.{is_refusal}
 use Rattle.quote_text.specs.Sides.{cents_text, side_text}
 use Rattle.script_text.specs.Escaping.{hexadecimal, is_plain, escaped, escape_text}
@@ -119,19 +122,19 @@ quote_clear market bid offer name b o =
     let one : List ℕ = codes "Q" ++ word market in
     grow (one ++ word (side_text bid)) (side_text offer) (grow one (side_text bid) name (side_clear bid b)) (side_clear offer o)
 
-request_clear : (kind : ℕ) (member fields : List ℕ) → eqb kind 10 ≡ false → Clear member → Clear (request_text kind member fields)
+request_clear : (kind : MessageType) (member fields : List ℕ) → eqb (byte_of kind) 10 ≡ false → Clear member → Clear (request_text kind member fields)
 unfolding request_text
 request_clear kind member fields k name = rw k (grow (word member) (escape_text fields) name (escape_clear fields))
 
 command_clear : (config : Config) (command : Command) → Names config → fits_limits command ≡ true → Clear (command_text config command)
-unfolding command_text
+unfolding command_text byte_of
 command_clear config (Quote market bid offer) names fits =
     let sides = and_parts (fits_quote bid) (fits_quote offer) fits in
     quote_clear (name_at config.markets market) bid offer (name_clear config.markets market names.markets) sides.0 sides.1
-command_clear config (New member id terms) names fits = request_clear 68 (name_at config.members member) _ refl (name_clear config.members member names.members)
-command_clear config (Cancel member id orig) names fits = request_clear 70 (name_at config.members member) _ refl (name_clear config.members member names.members)
-command_clear config (Replace member id orig terms) names fits = request_clear 71 (name_at config.members member) _ refl (name_clear config.members member names.members)
-command_clear config (Status member id side) names fits = request_clear 72 (name_at config.members member) _ refl (name_clear config.members member names.members)
+command_clear config (New member id terms) names fits = request_clear NewOrder (name_at config.members member) _ refl (name_clear config.members member names.members)
+command_clear config (Cancel member id orig) names fits = request_clear CancelRequest (name_at config.members member) _ refl (name_clear config.members member names.members)
+command_clear config (Replace member id orig terms) names fits = request_clear ReplaceRequest (name_at config.members member) _ refl (name_clear config.members member names.members)
+command_clear config (Status member id side) names fits = request_clear StatusRequest (name_at config.members member) _ refl (name_clear config.members member names.members)
 
 -- ---- lines
 
@@ -176,12 +179,13 @@ event_clear config symbol event lines h =
     let c : Clear four = grow three (moment_text event.moment) b (moment_clear event.moment) in
     grow four (command_text config event.command) c (command_clear config event.command names fits.limits)
 
-kind_clear : (b : Bool) → Clear (byte (cond b 57 56))
+kind_clear : (b : Bool) → Clear (byte (byte_of (cond b CancelReject ExecutionReport)))
+unfolding byte_of
 kind_clear true = refl
 kind_clear false = refl
 
-code_clear : (report : Report) → Clear (byte (kind_code report))
-unfolding kind_code
+code_clear : (report : Report) → Clear (byte (byte_of (kind_of report)))
+unfolding kind_of
 code_clear report = kind_clear (is_refusal report.kind)
 
 pub report_clear : (config : Config) (symbol : ℕ) (report : Report) → has_line_names config ≡ true → report.event < 2 ^ 64 → report.place < 2 ^ 64
@@ -193,9 +197,9 @@ report_clear config symbol report lines number place =
     let two : List ℕ = one ++ word (decimal report.event) in
     let three : List ℕ = two ++ word (decimal report.place) in
     let four : List ℕ = three ++ word (name_at config.members report.member) in
-    let five : List ℕ = four ++ word (byte (kind_code report)) in
+    let five : List ℕ = four ++ word (byte (byte_of (kind_of report))) in
     let a : Clear two = grow one (decimal report.event) (name_clear config.symbols symbol names.symbols) (number_clear report.event number) in
     let b : Clear three = grow two (decimal report.place) a (number_clear report.place place) in
     let c : Clear four = grow three (name_at config.members report.member) b (name_clear config.members report.member names.members) in
-    let d : Clear five = grow four (byte (kind_code report)) c (code_clear report) in
+    let d : Clear five = grow four (byte (byte_of (kind_of report))) c (code_clear report) in
     grow five (report_body config symbol report) d (escape_clear (body_of report (name_at config.symbols symbol) (name_at config.members report.member)))

@@ -5,7 +5,8 @@ use Rattle.std.specs.Prelude.{IsSome, IfOk}
 use Rattle.venue_words.specs.declared.config.Config.{Config}
 use Rattle.fix_frames.specs.Reading.{none_yet, reading_of}
 use Rattle.fix_frames.specs.Streams.{Stream, HasGiven, HasWaited, HasExceeded}
-use Rattle.member_gate.specs.declared.business.TheConstants.{BUSINESS_REJECT}
+use Rattle.fix_write.specs.declared.message_type.MessageType.{MessageType}
+use Rattle.fix_write.specs.declared.message_type.MessageType.TheVariants.{MarketDataSnapshot}
 use Rattle.session_core.specs.declared.message.Request.{Request}
 use Rattle.session_core.specs.declared.state.EndCause.{EndCause}
 use Rattle.session_core.specs.declared.state.Phase.{Phase}
@@ -23,7 +24,7 @@ use Rattle.session_stream.specs.Work.{Work, then_work, work_of_reading}
 use Rattle.session_stream.specs.WorkLaws.{work_of_turn, underway_fed, underway_more, underway_none, underway_reads, underway_waits, underway_whole, underway_settled, underway_over, underway_over_more, underway_long, underway_long_more, frame_cause, overlong_cause, reading_work-alike}
 use Rattle.market_data.specs.Feeding.{Feeding, feeding_of, unfed, no_answer, HasTaken, IsFed, StandsFor, Adds}
 use Rattle.market_data.specs.Lines.{TimedQuote, handed_quotes, all_quotes, lines_from, last_moment, feed_lines}
-use Rattle.market_data.specs.Market.{Market, answer_snapshot, market_answer, market_by, market_of}
+use Rattle.market_data.specs.Market.{Market, answer_snapshot, answer_by_type, market_answer, market_by, market_of}
 use Rattle.market_data.specs.Snapshots.{Meant}
 use Rattle.market_data.proofs.LineSteps.{lines_more, last_more, lines_all}
 
@@ -34,15 +35,14 @@ alike-snapshot moment session request (Ok snapshot) = alike-self session
 alike-snapshot moment session request (Err failed) =
     rejects-alike session session request.number request.kind failed.tag failed.reason moment (alike-self session)
 
-alike-cond : (test : Bool) (a b : Outcome) (session : Machine) → AreAlike a.machine session → AreAlike b.machine session → AreAlike (cond test a b).machine session
-alike-cond true a b session h k = h
-alike-cond false a b session h k = k
+alike-type : (kind : MessageType) (config : Config) (session : Machine) (request : Request) →
+    AreAlike (answer_by_type kind config session request).machine session
+alike-type MarketDataSnapshot config session request = alike-snapshot config.begin session request _
+alike-type _ config session request = sends-alike session session _ config.begin (alike-self session)
 
 market_only_sends : (config : Config) → OnlySends (market_answer config)
 unfolding market_answer
-market_only_sends config session request =
-    alike-cond _ (answer_snapshot config.begin session request _) _ session (alike-snapshot config.begin session request _)
-    (sends-alike session session _ config.begin (alike-self session))
+market_only_sends config session request = alike-type request.kind config session request
 
 no_answer_only_sends : OnlySends no_answer
 no_answer_only_sends session request = alike-self session

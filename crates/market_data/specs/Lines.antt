@@ -1,18 +1,19 @@
 -- The lines of a feed that quotes make.
-use Rattle.std.specs.Prelude.{ℕ, ℤ, ◌==◌, if◌then◌else◌, List, [], ◌∷◌, ◌++◌, map, Option, Some, None, Result, Ok, Err, codes, option_and_then}
+use Rattle.std.specs.Prelude.{ℕ, ℤ, if◌then◌else◌, List, [], ◌∷◌, ◌++◌, map, Option, Some, None, Result, Ok, Err, codes, option_and_then}
 use Rattle.std.specs.List.{flat_map}
 use Rattle.std.specs.Ordering.{int_eq}
 use Rattle.venue_words.specs.declared.command.Command.{Command}
 use Rattle.venue_words.specs.declared.command.Command.TheVariants.{Quote}
 use Rattle.venue_words.specs.declared.config.Config.{Config}
 use Rattle.fix_fields.specs.Forms.{moment_of}
+use Rattle.fix_write.specs.declared.message_type.MessageType.{MessageType}
+use Rattle.fix_write.specs.declared.message_type.MessageType.TheVariants.{MarketDataSnapshot}
 use Rattle.fix_write.specs.declared.tags.TheConstants.{SENDING_TIME}
 use Rattle.fix_write.specs.Moments.{moment_text}
 use Rattle.member_gate.specs.Answering.{name_at}
 use Rattle.quote_text.specs.Sides.{side_text}
 use Rattle.session_core.specs.declared.message.Request.{Request}
 use Rattle.session_core.specs.Lookup.{value_of}
-use Rattle.market_data.specs.declared.message_types.TheConstants.{MARKET_DATA_SNAPSHOT}
 use Rattle.market_data.specs.declared.snapshots.Snapshot.{Snapshot}
 use Rattle.market_data.specs.Snapshots.{Meant, snapshot_of}
 
@@ -38,12 +39,15 @@ timed_if (Err failed) moment = []
 timed_if (Ok snapshot) None = []
 timed_if (Ok snapshot) (Some moment) = timed moment snapshot
 
--- the quotes of a message: those of a snapshot that is taken
+-- by its type: those of a snapshot that is taken
+abbrev pub quotes_by_type : MessageType → Config → Request → List TimedQuote
+quotes_by_type MarketDataSnapshot config request =
+    timed_if (snapshot_of request.fields config) (sending_time request)
+quotes_by_type _ config request = []
+
+-- the quotes of a message
 unfoldable pub quotes_in : Config → Request → List TimedQuote
-quotes_in config request =
-    if request.kind == MARKET_DATA_SNAPSHOT
-    then timed_if (snapshot_of request.fields config) (sending_time request)
-    else []
+quotes_in config request = quotes_by_type request.kind config request
 
 -- those of the message that a turn hands out, if any
 abbrev pub handed_quotes : Config → Option Request → List TimedQuote

@@ -1,9 +1,10 @@
 -- What the recorded bytes of a market data session say: the lines of its feed, and how it ended.
-use Rattle.std.specs.Prelude.{ℕ, ℤ, ◌==◌, if◌then◌else◌, List, Option, Result, Ok, Err}
+use Rattle.std.specs.Prelude.{ℕ, ℤ, List, Option, Result, Ok, Err}
 use Rattle.venue_words.specs.declared.config.Config.{Config}
 use Rattle.fix_frames.specs.Reading.{reading_of}
+use Rattle.fix_write.specs.declared.message_type.MessageType.{MessageType}
+use Rattle.fix_write.specs.declared.message_type.MessageType.TheVariants.{BusinessReject, MarketDataSnapshot}
 use Rattle.fix_write.specs.declared.tags.TheConstants.{MSG_TYPE}
-use Rattle.member_gate.specs.declared.business.TheConstants.{BUSINESS_REJECT}
 use Rattle.member_gate.specs.Answering.{business_body}
 use Rattle.session_core.specs.declared.message.Request.{Request}
 use Rattle.session_core.specs.declared.state.EndCause.{EndCause}
@@ -11,7 +12,6 @@ use Rattle.session_core.specs.Lookup.{text_in}
 use Rattle.session_core.specs.Machine.{Machine, Outcome, fresh, rests, on_send_one, on_reject}
 use Rattle.session_core.specs.State.{cause_of}
 use Rattle.session_stream.specs.Work.{Work, work_of_reading}
-use Rattle.market_data.specs.declared.message_types.TheConstants.{MARKET_DATA_SNAPSHOT}
 use Rattle.market_data.specs.Lines.{all_quotes, feed_lines}
 use Rattle.market_data.specs.Snapshots.{Meant, snapshot_of}
 
@@ -21,12 +21,16 @@ answer_snapshot moment session request (Ok snapshot) = rests session
 answer_snapshot moment session request (Err failed) =
     on_reject session request.number request.kind failed.tag failed.reason moment
 
--- what the session answers to a message: one of another type is answered by a BusinessMessageReject
+-- by its type: a message that is no snapshot is answered by a BusinessMessageReject
+abbrev pub answer_by_type : MessageType → Config → Machine → Request → Outcome
+answer_by_type MarketDataSnapshot config session request =
+    answer_snapshot config.begin session request (snapshot_of request.fields config)
+answer_by_type _ config session request =
+    on_send_one session BusinessReject (business_body request.number (text_in MSG_TYPE request.fields)) config.begin
+
+-- what the session answers to a message
 unfoldable pub market_answer : Config → Machine → Request → Outcome
-market_answer config session request =
-    if request.kind == MARKET_DATA_SNAPSHOT
-    then answer_snapshot config.begin session request (snapshot_of request.fields config)
-    else on_send_one session BUSINESS_REJECT (business_body request.number (text_in MSG_TYPE request.fields)) config.begin
+market_answer config session request = answer_by_type request.kind config session request
 
 -- the lines of a feed, and why the session ended, where it did
 pub record Market : Type 0 where

@@ -6,10 +6,10 @@ ghost use Rattle.session_core.specs.Machine.{on_frame, on_overlong};
 ghost use Rattle.market_data.specs.Feeding.{feeding_of, IsFed, StandsFor, Adds};
 
 use crate::lines::push_snapshot;
-use crate::message_types::MARKET_DATA_SNAPSHOT;
 use crate::snapshots::{SnapshotRefusal, read_snapshot};
 use fix_fields::moment;
 use fix_frames::{Framer, Next};
+use fix_write::MessageType;
 use session_core::lookup::value_of;
 use session_core::tags::SENDING_TIME;
 use session_core::{EndCause, Request, Session, Turn};
@@ -44,7 +44,7 @@ fn push_message(
         ≡ text.old.items ++ lines_from config.now last.old (quotes_in config.now request.now)) }
     ensures last { OnOk result (last.new ≡ last_moment last.old (quotes_in config.now request.now)) }
 {
-    if request.kind != MARKET_DATA_SNAPSHOT {
+    if !matches!(request.kind, MessageType::MarketDataSnapshot) {
         return Ok(());
     }
     match read_snapshot(alloc, request, config) {

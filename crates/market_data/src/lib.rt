@@ -6,7 +6,6 @@ pub mod feeding;
 pub mod input;
 pub mod lines;
 pub mod market;
-pub mod message_types;
 pub mod plan;
 pub mod quotes;
 pub mod snapshots;

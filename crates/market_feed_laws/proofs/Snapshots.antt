@@ -23,12 +23,13 @@ use Rattle.session_core.specs.Lookup.{value_of}
 use Rattle.market_data.specs.declared.entries.EntryQuote.{EntryQuote}
 use Rattle.market_data.specs.declared.entries.EntryType.{EntryType}
 use Rattle.market_data.specs.declared.entries.EntryType.TheVariants.{Bid, Offer, EmptyBook}
-use Rattle.market_data.specs.declared.message_types.TheConstants.{MARKET_DATA_SNAPSHOT}
+use Rattle.fix_write.specs.declared.message_type.MessageType.{MessageType}
+use Rattle.fix_write.specs.declared.message_type.MessageType.TheVariants.{MarketDataSnapshot}
 use Rattle.market_data.specs.declared.snapshots.Snapshot.{Snapshot}
 use Rattle.market_data.specs.declared.tags.TheConstants.{MD_ENTRY_PX, MD_MKT}
 use Rattle.market_data.specs.Entries.{cents_of_amount, entries_of, entry_quote, entry_type, market_in, market_or_first, price_in, used_quote, used_quotes, whole_cents}
 use Rattle.market_data.specs.Faults.{entry_fault, entry_faults, fails_if, fault_of_type, first_some, head_faults, snapshot_fault, symbol_in}
-use Rattle.market_data.specs.Lines.{TimedQuote, all_quotes, quotes_in, sending_time, timed, timed_if}
+use Rattle.market_data.specs.Lines.{TimedQuote, all_quotes, quotes_by_type, quotes_in, sending_time, timed, timed_if}
 use Rattle.market_data.specs.Quotes.{bids_of, first_named, is_named, market_quote, markets_in, offers_of, quotes_of, said_of}
 use Rattle.market_data.specs.Snapshots.{Meant, snapshot_of, unless_fault, whole_snapshot}
 use Rattle.market_feed_laws.proofs.Reading.{IsWritable}
@@ -247,13 +248,14 @@ writable_meant config fields (Ok snapshot) (Some moment) e =
     let t = taken (snapshot_fault fields config) (whole_snapshot fields config) snapshot e in
     subst (λ (s : Snapshot). AllByRecursion (IsWritable config) (timed moment s)) t.1 (writable_whole config fields moment t.0)
 
+writable_by_type : (kind : MessageType) (config : Config) (request : Request) → AllByRecursion (IsWritable config) (quotes_by_type kind config request)
+writable_by_type MarketDataSnapshot config request =
+    writable_meant config request.fields (snapshot_of request.fields config) (sending_time request) refl
+writable_by_type _ config request = tt
+
 writable_in : (config : Config) (request : Request) → AllByRecursion (IsWritable config) (quotes_in config request)
 unfolding quotes_in
-writable_in config request =
-    elim (request.kind == MARKET_DATA_SNAPSHOT) as (λ b. AllByRecursion (IsWritable config) (cond b (timed_if (snapshot_of request.fields config) (sending_time request)) [])) [
-      | true ↦ writable_meant config request.fields (snapshot_of request.fields config) (sending_time request) refl
-      | false ↦ tt
-    ]
+writable_in config request = writable_by_type request.kind config request
 
 pub all_writable : (config : Config) (requests : List Request) → AllByRecursion (IsWritable config) (all_quotes config requests)
 all_writable config requests = all_flat (IsWritable config) (quotes_in config) requests (writable_in config)

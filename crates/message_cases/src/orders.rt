@@ -39,7 +39,7 @@ fn read(alloc: Global, content: &[u8]) -> Result<Result<Decoded, Refusal>, NoMem
 
 /// Tells the type and the body of a report about a symbol to member A.
 pub fn tell_report(report: &Report, symbol: &[u8], told: &mut Told) -> Result<(), NoMemory> {
-    told.line(&[kind(report)]);
+    told.line(&[kind(report).byte()]);
     told.push(" ");
     let text = body(told.alloc, report, symbol, b"A")?;
     told.bytes(text.as_slice());

@@ -2,7 +2,7 @@
 use case_text::{Told, Words};
 use fix_fields::moment;
 use fix_frames::{Framer, Next};
-use fix_write::wrap;
+use fix_write::{MessageType, wrap};
 use session_core::{Input, Message, Request, Session, Turn};
 use std::alloc::Global;
 use venue_words::limits::MAX_FRAME_BYTES;
@@ -54,7 +54,7 @@ impl Desk {
             told.word("not up");
             return Ok(());
         }
-        let kind = words.byte(b"kind");
+        let kind = MessageType::of_byte(words.byte(b"kind"));
         let body = words.value(b"body").unwrap_or(&[]);
         let frame = self.session.send(kind, body, START)?;
         told.line(frame.as_slice());
@@ -108,12 +108,17 @@ impl Desk {
     /// Works one input of each kind, and tells each turn.
     fn work_all(&mut self, told: &mut Told) -> Result<(), NoMemory> {
         let body = Bytes::copy_of(told.alloc, b"37=X-2\x01")?;
-        let messages = Items(vec![in told.alloc; Message { kind: b'8', body }]?);
+        let messages = Items(vec![in told.alloc;
+            Message {
+                kind: MessageType::ExecutionReport,
+                body
+            },
+        ]?);
         let moment = START;
         let inputs = [
             Input::Reject {
                 number: 7,
-                kind: b'D',
+                kind: MessageType::NewOrder,
                 tag: 38,
                 reason: 1,
                 moment,
@@ -142,7 +147,7 @@ fn tell_request(request: &Request<'_>, told: &mut Told) {
     told.push(" of ");
     told.show(&request.fields.len());
     told.push(" fields and type ");
-    told.bytes(&[request.kind]);
+    told.bytes(&[request.kind.byte()]);
 }
 
 /// Tells the replies of a turn, what it hands out, and why the connection ended.

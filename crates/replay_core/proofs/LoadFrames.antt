@@ -18,7 +18,9 @@ use Rattle.fix_frames.specs.ReadingLaws.{reading-given}
 use Rattle.fix_frames.specs.StreamLaws.{next_from-whole, skips_none}
 use Rattle.fix_frames.specs.Streams.{Stream, HasGiven, gives}
 use Rattle.session_core.specs.declared.message.Request.{Request}
-use Rattle.session_core.specs.declared.message_types.TheConstants.{LOGON}
+use Rattle.fix_write.specs.declared.message_type.MessageType.{MessageType}
+use Rattle.fix_write.specs.declared.message_type.MessageType.TheVariants.{Logon}
+use Rattle.fix_write.specs.MessageTypes.{is_order}
 use Rattle.session_core.specs.declared.state.Phase.TheVariants.{New}
 use Rattle.session_core.specs.declared.state.State.{State}
 use Rattle.session_core.specs.Answers.{drops, logs_out, drops_wrong_name}
@@ -27,7 +29,6 @@ use Rattle.session_core.specs.Content.{content_of}
 use Rattle.session_core.specs.Logon.{is_bad_logon, next_of_logon, on_logon, before_logon, takes_logon}
 use Rattle.session_core.specs.Lookup.{is_value, kind_of, message_number}
 use Rattle.session_core.specs.Machine.{Machine, on_frame, on_fields, plan_for, carried_out, incoming, fresh}
-use Rattle.session_core.specs.MessageTypes.{is_order}
 use Rattle.session_core.specs.State.{heard, is_up}
 use Rattle.order_fields.specs.declared.order.Refusal.TheVariants.{Business}
 use Rattle.order_fields.specs.Order.{order, symbol_of, decoded_at, decoded_of, unless_failed, failed_of}
@@ -178,11 +179,11 @@ logon_none machine moment fields state number =
     by_cases (is_bad_logon (incoming number fields)) (λ e. rw e refl)
     (λ e. by_cases (nat_lt number (next_of_logon state (incoming number fields))) (λ h. rw (e, h) refl) (λ h. rw (e, h) refl))
 
-before_none : (machine : Machine) (moment : ℤ) (fields : List Field) (state : State) (number : ℕ)
-    → (carried_out machine moment fields (before_logon state (incoming number fields))).turn.request ≡ None
+before_none : (kind : MessageType) (machine : Machine) (moment : ℤ) (fields : List Field) (state : State) (number : ℕ)
+    → (carried_out machine moment fields (before_logon kind state (incoming number fields))).turn.request ≡ None
 unfolding carried_out before_logon
-before_none machine moment fields state number =
-    by_cases (kind_of fields == LOGON) (λ e. rw e (logon_none machine moment fields state number)) (λ e. rw e refl)
+before_none Logon machine moment fields state number = logon_none machine moment fields state number
+before_none _ machine moment fields state number = refl
 
 dropped_none : (machine : Machine) (moment : ℤ) (fields : List Field) (state : State) (number tag : ℕ)
     → (carried_out machine moment fields (drops_wrong_name state (incoming number fields) tag)).turn.request ≡ None
@@ -196,7 +197,7 @@ message_none machine moment fields member sent state number new =
     let down : is_up state ≡ false = rw new refl in
     by_cases (is_value SENDER_COMP_ID member fields)
     (λ e. by_cases (is_value TARGET_COMP_ID venue fields)
-    (λ h. rw (e, h, down) (before_none machine moment fields state number))
+    (λ h. rw (e, h, down) (before_none (kind_of fields) machine moment fields state number))
     (λ h. rw (e, h) (dropped_none machine moment fields state number TARGET_COMP_ID)))
     (λ e. rw e (dropped_none machine moment fields state number SENDER_COMP_ID))
 

@@ -1,5 +1,5 @@
 //! The stream of a member's connection, message by message.
-use crate::names::{end_in_words, fault_in_words, message_name};
+use crate::names::message_name;
 use crate::passed::{may_go_on, push_why_passed};
 use fix_fields::{Field, fields};
 use fix_frames::{Framer, Next};
@@ -75,7 +75,7 @@ fn push_turn(out: &mut Vec<u8>, turn: &Turn<'_>) -> Result<(), NoMemory> {
     match turn.ended {
         Some(cause) => {
             push(out, ": the connection ends, since ")?;
-            push(out, end_in_words(cause))
+            push(out, cause.text())
         }
         None if turn.request.is_some() => push(out, ": handed to the venue"),
         None if turn.replies.as_slice().is_empty() => push(out, ": taken, and not to be answered"),
@@ -107,7 +107,7 @@ fn tell_frame(
         Ok(fields) => push_message(out, fields.as_slice())?,
         Err(fault) => {
             push(out, "  a message is passed over, since ")?;
-            push(out, fault_in_words(fault))?;
+            push(out, fault.text())?;
             return push(out, "\n");
         }
     }
@@ -147,7 +147,7 @@ impl Stream {
         push(out, "  the connection of ")?;
         out.extend_from_slice(member)?;
         push(out, " ends, since ")?;
-        push(out, end_in_words(cause))?;
+        push(out, cause.text())?;
         push(out, "\n")
     }
 
