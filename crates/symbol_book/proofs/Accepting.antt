@@ -7,6 +7,7 @@ use Rattle.venue_words.specs.declared.command.Terms.{Terms}
 use Rattle.std.specs.Prelude.{length, ◌++◌, All}
 use Rattle.std.proofs.lemmas.List.Elements.{All-append}
 use Rattle.venue_words.specs.declared.limits.TheConstants.{MAX_ID_BYTES}
+use Rattle.venue_words.specs.declared.rule.Rule.{Rule}
 use Rattle.eager_meaning.specs.declared.known.Known.{Known}
 use Rattle.eager_meaning.specs.declared.order.Order.{Order}
 use Rattle.eager_meaning.specs.Entering.{accepted_order}
@@ -17,7 +18,7 @@ use Rattle.eager_meaning.specs.declared.amount.TheConstants.{ONE_AMOUNT}
 use Rattle.eager_meaning.specs.Verdict.{verdict, first_broken, Test}
 
 -- the third rule holds where none is broken
-third_holds : (a b : Bool) (m n : ℕ) (rest : List Test) → first_broken ((a, m) ∷ (b, n) ∷ rest) ≡ None → b ≡ false
+third_holds : (a b : Bool) (m n : Rule) (rest : List Test) → first_broken ((a, m) ∷ (b, n) ∷ rest) ≡ None → b ≡ false
 unfolding first_broken
 third_holds true b m n rest p = cc
 third_holds false true m n rest p = cc
@@ -36,7 +37,7 @@ unfolding verdict quantity_in
 has_shares member id terms known p = shares_within (whole_quotient ONE_AMOUNT terms.quantity) (third_holds _ _ _ _ _ p)
 
 -- and an id that is not used up
-first_holds : (a : Bool) (m : ℕ) (rest : List Test) → first_broken ((a, m) ∷ rest) ≡ None → a ≡ false
+first_holds : (a : Bool) (m : Rule) (rest : List Test) → first_broken ((a, m) ∷ rest) ≡ None → a ≡ false
 unfolding first_broken
 first_holds true m rest p = cc
 first_holds false m rest p = refl

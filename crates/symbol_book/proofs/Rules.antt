@@ -2,11 +2,12 @@
 use Rattle.std.proofs.Common.{◌≡◌, ℕ, Bool, true, false, List, ◌∷◌, Option, None, refl}
 use Rattle.venue_words.specs.declared.command.Command.TheVariants.{New, Cancel, Replace}
 use Rattle.venue_words.specs.declared.command.Terms.{Terms}
+use Rattle.venue_words.specs.declared.rule.Rule.{Rule}
 use Rattle.eager_meaning.specs.declared.order.Live.{Live}
 use Rattle.eager_meaning.specs.Orders.{known_of}
 use Rattle.eager_meaning.specs.Verdict.{verdict, first_broken, Test}
 
-first_holds : (a : Bool) (m : ℕ) (rest : List Test) → first_broken ((a, m) ∷ rest) ≡ None → a ≡ false
+first_holds : (a : Bool) (m : Rule) (rest : List Test) → first_broken ((a, m) ∷ rest) ≡ None → a ≡ false
 unfolding first_broken
 first_holds true m rest p = cc
 first_holds false m rest p = refl
