@@ -35,6 +35,7 @@ end_text link.WrongName = codes "a wrong name"
 end_text link.InUse = codes "the member is connected"
 end_text link.Silent = codes "silence"
 end_text link.TooLong = codes "a frame too long"
-end_text (link.Full symbol found) = codes "symbol " ++ decimal symbol ++ codes " is full at " ++ decimal found ++ codes " events"
+end_text (link.Full symbol found) =
+    codes "symbol " ++ (decimal symbol ++ (codes " is full at " ++ (decimal found ++ codes " events")))
 end_text link.LinkFault = codes "a fault of the link"
 end_text link.NoMemory = codes "out of memory"

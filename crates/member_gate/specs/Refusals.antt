@@ -5,5 +5,6 @@ use Rattle.member_gate.specs.declared.refusal.DeskRefusal.TheVariants.{Full, NoM
 
 -- why a piece was not worked to its end
 abbrev pub refusal_text : DeskRefusal → List ℕ
-refusal_text (Full symbol found) = codes "symbol " ++ decimal symbol ++ codes " is full at " ++ decimal found ++ codes " events"
+refusal_text (Full symbol found) =
+    codes "symbol " ++ (decimal symbol ++ (codes " is full at " ++ (decimal found ++ codes " events")))
 refusal_text NoMemory = codes "out of memory"
