@@ -25,3 +25,4 @@ pub mod TookLists
 pub mod Wholes
 pub mod Worked
 pub mod Zips
+pub mod Sending

@@ -1,6 +1,9 @@
 -- The venue of the config is one over any books.
 use Rattle.std.proofs.Common.{List, map, arith, Vec}
 use Rattle.std.specs.declared.alloc.Global.{Global}
+use denote.Param.Send.{sendable}
+use Rattle.symbol_book.proofs.book.BookOver.TheSendSync as book
+use Rattle.feeds_core.proofs.Sending.{sides_send}
 use Rattle.feed_work.specs.Feeds.{Asked}
 use Rattle.feeds_core.proofs.OfConfig.{count_books, worked_book}
 use Rattle.feed_work.proofs.Places.{within}
@@ -19,3 +22,6 @@ returns-clause-books g c symbol book at =
     let lt = within books symbol book at in
     worked_book config c.in_ok-venue.venue c.in_ok-venue.seats books (map items c.args.feeds.items) symbol book c.requires.config
     (made.of_config c.in_ok-venue.seats made.seats) made.seats settings (omega arith) at (c.in_ok-books.ensures.interleaves symbol book at)
+
+pub work_over-requires-send-V : goal.work_over-requires-send-V
+work_over-requires-send-V g c κs lives = search (book.the_send, sides_send, sendable) depth 30 fits 50000
