@@ -14,7 +14,8 @@ use Rattle.line_work.specs.FeedState.{FeedState, Connection, connection_at}
 use Rattle.line_work.specs.LineWork.{ticked, work_of_moment, work_of_bytes, work_of_piece, fed, piece_lines}
 use Rattle.line_work.specs.OneByOneLaws.{zip_at, zip_set}
 use Rattle.line_work.specs.Output.{frame_lines}
-use Rattle.line_work.specs.Pulling.{IsPulled, PulledOne, reports_sent}
+use Rattle.line_work.specs.Pulling.{IsPulled, PulledOne}
+use Rattle.member_gate.specs.Pulling.{reports_sent}
 use Rattle.line_work.specs.Refusing.{TookPart}
 use Rattle.line_work.specs.Standing.{StandsFor, IsDeskOf, WorkerView, worker_of}
 
@@ -43,12 +44,6 @@ pub stands_ticked : (config : Config) (before moment now : ℤ) (ds es : List De
 stands_ticked config before moment now ds es state e s members = record { config = s.config; moment = e; desks = members }
 
 -- ---- a piece
-
-pub desk_stands : (worker : WorkerView) (ds : List DeskView) (number : ℕ) (desk : DeskView) (state : FeedState)
-    → worker.desks ≡ ds → number < length ds → desk ≡ get_or ds number desk → StandsFor worker state
-    → IsDeskOf desk (connection_at state number)
-desk_stands worker ds number desk state e l at s =
-    zip_at IsDeskOf ds state.connections number desk _ l at (subst (λ (xs : List DeskView). AllZip IsDeskOf xs state.connections) e s.desks)
 
 pub stands_taken : (worker : WorkerView) (config : Config) (moment now : ℤ) (ds : List DeskView) (number : ℕ) (desk next : DeskView) (piece : List ℕ) (state : FeedState)
     → worker ≡ worker_of config moment ds → now ≡ moment → number < length ds → desk ≡ get_or ds number desk → StandsFor worker state

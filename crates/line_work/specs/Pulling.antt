@@ -2,17 +2,12 @@
 use Rattle.std.specs.Prelude.{◌≡◌, ℕ, ℤ, ◌++◌, Bool, List, length, Some, slice_get, slice_set}
 use Rattle.venue_words.specs.declared.config.Config.{Config}
 use Rattle.venue_words.specs.declared.report.Report.{Report}
-use Rattle.session_core.specs.Machine.{Outcome, IsUp}
-use Rattle.session_core.specs.Runs.{send_if_up}
+use Rattle.session_core.specs.Machine.{IsUp}
 use Rattle.member_gate.specs.Answering.{name_at}
 use Rattle.member_gate.specs.Desks.{DeskView}
-use Rattle.member_gate.specs.Reporting.{asked_reports, messages_past, MovedOn}
+use Rattle.member_gate.specs.Pulling.{reports_sent}
+use Rattle.member_gate.specs.Reporting.{asked_reports, MovedOn}
 use Rattle.line_work.specs.Output.{frame_lines}
-
--- what the desk's session sends of these reports of each symbol
-abbrev pub reports_sent : Config → ℤ → (ℕ → List Report) → DeskView → Outcome
-reports_sent config moment reports desk =
-    send_if_up desk.session (messages_past config desk.member desk.cursors reports) moment
 
 -- the desk behind that, where these symbols were asked: all cursors go on
 pub record IsPulled (config : Config) (moment : ℤ) (asked : List Bool) (reports : ℕ → List Report) (before after : DeskView) : Type 0 where

@@ -3,10 +3,11 @@ ghost use Rattle.std.specs.Prelude.{◌≡◌, ◌<◌, ◌≤◌, ℕ, ◌++◌
 ghost use Rattle.venue_words.specs.Conditions.{IsConfig};
 ghost use Rattle.venue_words.specs.Floors.{IsSetUpFor};
 ghost use Rattle.member_gate.specs.Answering.{name_at};
+ghost use Rattle.member_gate.specs.Pulling.{reports_sent};
 ghost use Rattle.member_gate.specs.Reporting.{asked_reports, AreFronts};
 ghost use Rattle.member_gate.specs.Submitting.{Waited};
 ghost use Rattle.line_work.specs.Output.{frame_lines};
-ghost use Rattle.line_work.specs.Pulling.{IsPulled, reports_sent};
+ghost use Rattle.line_work.specs.Pulling.{IsPulled};
 
 use crate::output::{name_at, push_frames};
 use crate::source::Source;

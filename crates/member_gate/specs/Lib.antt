@@ -3,6 +3,7 @@ pub mod AlikeLaws
 pub mod Answering
 pub mod Desks
 pub mod Laws
+pub mod Pulling
 pub mod QuietLaws
 pub mod Refusals
 pub mod Reporting

@@ -8,7 +8,8 @@ ghost use Rattle.session_core.specs.Runs.{send_if_up};
 ghost use Rattle.fix_frames.specs.Reading.{reading_of};
 ghost use Rattle.member_gate.specs.Submitting.{TookAll, Stopped, Waited};
 ghost use Rattle.member_gate.specs.Working.{AreUnread, work_of_reading};
-ghost use Rattle.member_gate.specs.Reporting.{cursor_at, asked_at, asked_reports, messages_past, AreFronts, ArePast, HasNoNews, MovedOn};
+ghost use Rattle.member_gate.specs.Reporting.{cursor_at, asked_at, asked_reports, AreFronts, ArePast, HasNoNews};
+ghost use Rattle.member_gate.specs.Pulling.{reports_sent, IsPull};
 
 use crate::awaited::Awaited;
 use crate::names::name_at;
@@ -254,30 +255,12 @@ impl Desk {
         requires setup { IsSetUpFor config.now (F.mark floor.old).setup }
         requires member { self.old.member < length config.now.members }
 
-        // What is sent.
-        ensures frames { IfOk result (λ frames. frames.items ≡ (send_if_up self.old.session (messages_past config.now
-            self.old.member self.old.cursors (λ symbol. (F.at floor.new symbol).reports)) moment).turn.replies) }
-        ensures session { OnOk result (self.new.session ≡ (send_if_up self.old.session (messages_past config.now
-            self.old.member self.old.cursors (λ symbol. (F.at floor.new symbol).reports)) moment).machine) }
-        ensures cursors { OnOk result (IsUp self.old.session → MovedOn (length config.now.symbols)
-            (λ symbol. (F.at floor.new symbol).reports) self.old.cursors self.new.cursors) }
-
-        // Where the session is not up.
-        ensures down { (IsUp self.old.session → ⊥) → IsOk result × (self.new ≡ self.old) × (floor.new ≡ floor.old) }
-
-        // What is asked of the floor.
-        ensures mark { F.mark floor.new ≡ F.mark floor.old }
-        ensures waited { (symbol : ℕ) → Waited (F.at floor.old symbol) (F.at floor.new symbol) }
-        ensures others { (symbol : ℕ) → length config.now.symbols ≤ symbol
-            → F.at floor.new symbol ≡ F.at floor.old symbol }
+        ensures frames { IfOk result (λ frames. frames.items ≡ (reports_sent config.now moment
+            (λ symbol. (F.at floor.new symbol).reports) self.old).turn.replies) }
+        ensures pulled { IsPull F.at F.mark config.now moment (λ symbol. (F.at floor.new symbol).reports) result
+            self.old self.new floor.old floor.new }
         ensures turns { OnOk result (IsUp self.old.session → (symbol : ℕ) → symbol < length config.now.symbols
             → TurnsRose (F.at floor.old symbol).turns (F.at floor.new symbol).turns) }
-
-        // What stays.
-        ensures member { self.new.member ≡ self.old.member }
-        ensures unread { self.new.unread ≡ self.old.unread }
-        ensures submitted { self.new.submitted ≡ self.old.submitted }
-        ensures err { OnErr result (self.new ≡ self.old) }
     {
         if !self.session.is_up() {
             return Ok(Vec::new(self.alloc));
@@ -309,37 +292,17 @@ impl Desk {
         requires setup { IsSetUpFor config.now (F.mark floor.old).setup }
         requires member { self.old.member < length config.now.members }
         requires awaited { AreFronts (length config.now.symbols) (λ symbol. (F.at floor.old symbol).reports) awaited.fronts.now }
-
-        // What is sent.
-        ensures frames { IfOk result (λ frames. frames.items ≡ (send_if_up self.old.session (messages_past config.now
-            self.old.member self.old.cursors (asked_reports awaited.entry.asked.now (λ symbol. (F.at floor.new symbol).reports)))
-            moment).turn.replies) }
-        ensures session { OnOk result (self.new.session ≡ (send_if_up self.old.session (messages_past config.now
-            self.old.member self.old.cursors (asked_reports awaited.entry.asked.now (λ symbol. (F.at floor.new symbol).reports)))
-            moment).machine) }
-        ensures cursors { OnOk result (IsUp self.old.session → MovedOn (length config.now.symbols)
-            (λ symbol. (F.at floor.new symbol).reports) self.old.cursors self.new.cursors) }
-
-        // Where the session is not up.
-        ensures down { (IsUp self.old.session → ⊥) → IsOk result × (self.new ≡ self.old) × (floor.new ≡ floor.old) }
-
-        // What is asked of the floor.
-        ensures mark { F.mark floor.new ≡ F.mark floor.old }
-        ensures waited { (symbol : ℕ) → Waited (F.at floor.old symbol) (F.at floor.new symbol) }
-        ensures others { (symbol : ℕ) → length config.now.symbols ≤ symbol
-            → F.at floor.new symbol ≡ F.at floor.old symbol }
+        ensures frames { IfOk result (λ frames. frames.items ≡ (reports_sent config.now moment
+            (asked_reports awaited.entry.asked.now (λ symbol. (F.at floor.new symbol).reports)) self.old).turn.replies) }
+        ensures pulled { IsPull F.at F.mark config.now moment
+            (asked_reports awaited.entry.asked.now (λ symbol. (F.at floor.new symbol).reports)) result
+            self.old self.new floor.old floor.new }
         ensures unasked { (symbol : ℕ)
             → HasNoNews (asked_at awaited.entry.asked.now symbol) (cursor_at self.old.cursors symbol) (F.at floor.old symbol)
             → F.at floor.new symbol ≡ F.at floor.old symbol }
         ensures turns { OnOk result (IsUp self.old.session → (symbol : ℕ) → symbol < length config.now.symbols
             → asked_at awaited.entry.asked.now symbol ≡ true → cursor_at self.old.cursors symbol < length (F.at floor.old symbol).reports
             → TurnsRose (F.at floor.old symbol).turns (F.at floor.new symbol).turns) }
-
-        // What stays.
-        ensures member { self.new.member ≡ self.old.member }
-        ensures unread { self.new.unread ≡ self.old.unread }
-        ensures submitted { self.new.submitted ≡ self.old.submitted }
-        ensures err { OnErr result (self.new ≡ self.old) }
     {
         if !self.session.is_up() {
             return Ok(Vec::new(self.alloc));

@@ -18,7 +18,8 @@ use Rattle.member_gate.specs.Reporting.{cursor_at, asked_at, where_asked, asked_
 use Rattle.member_gate.specs.Working.{AreUnread}
 use Rattle.line_work.specs.Output.{frame_lines}
 use Rattle.line_work.specs.OverLaws.{send_over}
-use Rattle.line_work.specs.Pulling.{IsPulled, reports_sent}
+use Rattle.line_work.specs.Pulling.{IsPulled}
+use Rattle.member_gate.specs.Pulling.{reports_sent}
 use Rattle.line_work.specs.Standing.{IsDeskOf}
 use Rattle.replay_core.specs.News.{NoneWaits, NoneElsewhere}
 use Rattle.replay_core.specs.Playing.{Member, reports_at}

@@ -19,11 +19,11 @@ returns-in-Ok-put_all-clause-reports g c before x =
     let sent : ℤ → Outcome = λ m. send_if_up desk.session (messages_past config desk.member desk.cursors looked) m in
     let same : sent moment ≡ sent_to config moment before looked = same_sent config moment looked desk before x in
     let pulled : Pulled config looked desk c.pull.new.self (sent_to config moment before looked) = record {
-      session = c.in-Ok.ensures.session ∙ ap (λ (m : ℤ). (sent m).machine) e ∙ ap (λ (o : Outcome). o.machine) same;
-      cursors = c.in-Ok.ensures.cursors;
-      down = λ d. (c.in-Ok.ensures.down d).1;
-      member = c.in-Ok.ensures.member;
-      unread = c.in-Ok.ensures.unread;
+      session = c.in-Ok.ensures.pulled.session ∙ ap (λ (m : ℤ). (sent m).machine) e ∙ ap (λ (o : Outcome). o.machine) same;
+      cursors = c.in-Ok.ensures.pulled.cursors;
+      down = λ d. (c.in-Ok.ensures.pulled.down d).1;
+      member = c.in-Ok.ensures.pulled.member;
+      unread = c.in-Ok.ensures.pulled.unread;
     } in
     let frames = c.as_slice.ensures.value ∙ c.in-Ok.ensures.frames ∙ ap (λ (m : ℤ). (sent m).turn.replies) e
     ∙ ap (λ (o : Outcome). o.turn.replies) same in record {
@@ -45,11 +45,11 @@ returns-clause-reports g c before x =
     let sent : ℤ → Outcome = λ m. send_if_up desk.session (messages_past config desk.member desk.cursors looked) m in
     let same : sent moment ≡ sent_to config moment before looked = same_sent config moment looked desk before x in
     let pulled : Pulled config looked desk c.pull.new.self (sent_to config moment before looked) = record {
-      session = c.in-Ok.ensures.session ∙ ap (λ (m : ℤ). (sent m).machine) e ∙ ap (λ (o : Outcome). o.machine) same;
-      cursors = c.in-Ok.ensures.cursors;
-      down = λ d. (c.in-Ok.ensures.down d).1;
-      member = c.in-Ok.ensures.member;
-      unread = c.in-Ok.ensures.unread;
+      session = c.in-Ok.ensures.pulled.session ∙ ap (λ (m : ℤ). (sent m).machine) e ∙ ap (λ (o : Outcome). o.machine) same;
+      cursors = c.in-Ok.ensures.pulled.cursors;
+      down = λ d. (c.in-Ok.ensures.pulled.down d).1;
+      member = c.in-Ok.ensures.pulled.member;
+      unread = c.in-Ok.ensures.pulled.unread;
     } in
     let frames = c.as_slice.ensures.value ∙ c.in-Ok.ensures.frames ∙ ap (λ (m : ℤ). (sent m).turn.replies) e
     ∙ ap (λ (o : Outcome). o.turn.replies) same in
