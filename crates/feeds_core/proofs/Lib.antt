@@ -25,4 +25,3 @@ pub mod TookLists
 pub mod Wholes
 pub mod Worked
 pub mod Zips
-pub mod Sending

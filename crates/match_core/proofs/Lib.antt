@@ -6,6 +6,7 @@ pub mod Kept
 pub mod KeyCounts
 pub mod Looks
 pub mod Rechecks
+pub mod Sending
 pub mod SetAside
 pub mod Stages
 pub mod SideRows

@@ -3,4 +3,3 @@ pub mod Closed
 pub mod Listings
 pub mod Lists
 pub mod Seats
-pub mod Sending

@@ -1,9 +1,7 @@
 -- The venue of the config is one over any books.
 use Rattle.std.proofs.Common.{List, map, arith, Vec}
 use Rattle.std.specs.declared.alloc.Global.{Global}
-use denote.Param.Send.{sendable}
-use Rattle.symbol_book.proofs.book.BookOver.TheSendSync as book
-use Rattle.feeds_core.proofs.Sending.{sides_send}
+use Rattle.symbol_book.proofs.Sending.{sending}
 use Rattle.feed_work.specs.Feeds.{Asked}
 use Rattle.feeds_core.proofs.OfConfig.{count_books, worked_book}
 use Rattle.feed_work.proofs.Places.{within}
@@ -24,4 +22,4 @@ returns-clause-books g c symbol book at =
     (made.of_config c.in_ok-venue.seats made.seats) made.seats settings (omega arith) at (c.in_ok-books.ensures.interleaves symbol book at)
 
 pub work_over-requires-send-V : goal.work_over-requires-send-V
-work_over-requires-send-V g c κs lives = search (book.the_send, sides_send, sendable) depth 30 fits 50000
+work_over-requires-send-V g c κs lives = search sending depth 30 fits 50000
