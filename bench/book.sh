@@ -25,7 +25,7 @@ use std::rt::{Clock, Runtime};
 use std::sync::ledger::{Blank, Ledger};
 use std::time::Instant;
 use symbol_book::Book;
-use venue_words::{BoxedTerms, Bytes, Command, Event, Held, NoMemory, Report, Row, Steps, Terms};
+use venue_words::{BoxedTerms, Command, Event, Held, Id, NoMemory, Report, Row, Steps, Terms};
 
 /// 100 shares as an amount, and one unit of price.
 const ROUND_LOT: i128 = 10_000_000_000;
@@ -53,7 +53,7 @@ fn new(alloc: Global, number: u32, terms: Terms) -> Result<Command, NoMemory> {
     let text = format!(in alloc; "ord-{number:06}")?;
     Ok(Command::New {
         member: number % 200,
-        id: Bytes::copy_of(alloc, text.as_bytes())?,
+        id: Id::copy_of(alloc, text.as_bytes())?,
         terms: BoxedTerms::new(alloc, terms)?,
     })
 }

@@ -10,7 +10,7 @@ use Rattle.std.proofs.lemmas.Slice.Eq.{bytes_eq-Decides}
 use Rattle.venue_words.specs.declared.command.Command.{Command}
 use Rattle.venue_words.specs.declared.command.Command.TheVariants.{Quote, New, Cancel, Replace, Status}
 use Rattle.venue_words.specs.declared.command.Event.{Event}
-use Rattle.venue_words.specs.declared.command.Terms.{Terms}
+use Rattle.venue_words.specs.declared.terms.Terms.{Terms}
 use Rattle.eager_meaning.specs.Interleaving.{Timed}
 use Rattle.audit_feeds.specs.Alike.{is_command, same_command, same_order_terms, same_peg_terms, same_terms}
 

@@ -6,7 +6,7 @@ use Rattle.std.specs.Str.{bytes_eq}
 use Rattle.venue_words.specs.declared.command.Command.{Command}
 use Rattle.venue_words.specs.declared.command.Command.TheVariants.{Quote, New, Cancel, Replace, Status}
 use Rattle.venue_words.specs.declared.command.Event.{Event}
-use Rattle.venue_words.specs.declared.command.Terms.{Terms}
+use Rattle.venue_words.specs.declared.terms.Terms.{Terms}
 use Rattle.eager_meaning.specs.Interleaving.{Timed}
 
 -- whether the fields of two orders are the same

@@ -56,7 +56,7 @@ fn same_command(x: &Command, y: &Command) -> bool
             },
         ) => member == other
             && id.as_slice() == other_id.as_slice()
-            && same_terms(terms.get(), other_terms.get()),
+            && same_terms(&terms.get(), &other_terms.get()),
         (
             Command::Cancel { member, id, orig },
             Command::Cancel {
@@ -86,7 +86,7 @@ fn same_command(x: &Command, y: &Command) -> bool
             member == other
                 && id.as_slice() == other_id.as_slice()
                 && orig.as_slice() == other_orig.as_slice()
-                && same_terms(terms.get(), other_terms.get())
+                && same_terms(&terms.get(), &other_terms.get())
         }
         (
             Command::Status { member, id, side },

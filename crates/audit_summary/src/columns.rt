@@ -117,30 +117,33 @@ pub fn command_pairs(alloc: Global, journal: &[Event]) -> Result<Vec<(u32, u32)>
 pub fn accepted_pairs(alloc: Global, reports: &[Report]) -> Result<Vec<(u32, u32)>, AllocError>
     ensures { IfOk result (λ pairs. pairs.items ≡ filter_map accepted_in reports.now) }
 {
-    reports
-        .iter()
-        .filter_map(|report| accepted_in(report))
-        .collect(alloc)
+    let mut pairs = Vec::new(alloc);
+    for report in reports {
+        push_pair(&mut pairs, accepted_in(report))?;
+    }
+    Ok(pairs)
 }
 
 /// What reports of trades count.
 pub fn trade_pairs(alloc: Global, reports: &[Report]) -> Result<Vec<(u32, u32)>, AllocError>
     ensures { IfOk result (λ pairs. pairs.items ≡ filter_map trade_in reports.now) }
 {
-    reports
-        .iter()
-        .filter_map(|report| trade_in(report))
-        .collect(alloc)
+    let mut pairs = Vec::new(alloc);
+    for report in reports {
+        push_pair(&mut pairs, trade_in(report))?;
+    }
+    Ok(pairs)
 }
 
 /// The shares that reports of trades count.
 pub fn share_pairs(alloc: Global, reports: &[Report]) -> Result<Vec<(u32, u32)>, AllocError>
     ensures { IfOk result (λ pairs. pairs.items ≡ filter_map shares_in reports.now) }
 {
-    reports
-        .iter()
-        .filter_map(|report| shares_in(report))
-        .collect(alloc)
+    let mut pairs = Vec::new(alloc);
+    for report in reports {
+        push_pair(&mut pairs, shares_in(report))?;
+    }
+    Ok(pairs)
 }
 
 /// What reports that a rule was broken count.

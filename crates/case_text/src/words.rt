@@ -2,7 +2,7 @@
 use fix_fields::{moment, number};
 use script_text::words::words_of;
 use std::alloc::{AllocError, Global};
-use venue_words::Bytes;
+use venue_words::Id;
 
 /// The words of an input, of which some are `NAME=VALUE`.
 #[derive(Drop)]
@@ -58,8 +58,8 @@ impl<'a> Words<'a> {
         moment(self.value(name)?)
     }
 
-    /// A copy of what a name has.
-    pub fn copy(&self, name: &[u8]) -> Result<Bytes, AllocError> {
-        Bytes::copy_of(self.alloc, self.value(name).unwrap_or(&[]))
+    /// The id that a name has.
+    pub fn id(&self, name: &[u8]) -> Result<Id, AllocError> {
+        Id::copy_of(self.alloc, self.value(name).unwrap_or(&[]))
     }
 }

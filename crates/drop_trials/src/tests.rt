@@ -13,7 +13,7 @@ use fix_write::wrap;
 use script_text::read_header;
 use std::alloc::Global;
 use std::sync::ledger::{Blank, Ledger};
-use venue_words::{BoxedTerms, Bytes, Command, Config, Floor, NoMemory, Steps, Terms};
+use venue_words::{BoxedTerms, Bytes, Command, Config, Floor, Id, NoMemory, Steps, Terms};
 
 /// The moment of all trials: 2024-01-02 14:30.
 const START: i64 = 1_704_205_800_000;
@@ -152,7 +152,7 @@ fn order(alloc: Global, member: u32, id: &[u8], side: u8) -> Result<Command, NoM
     ensures configured { (setup : Setup) → 2 ≤ setup.members → IfOk result (λ order. is_configured setup order ≡ true) }
     ensures limits { IfOk result (λ order. fits_limits order ≡ true) }
 {
-    let id = Bytes::copy_of(alloc, id)?;
+    let id = Id::copy_of(alloc, id)?;
     Ok(Command::New {
         member,
         id,

@@ -2,7 +2,7 @@
 use Rattle.std.specs.Prelude.{ℕ, ◌-◌, Bool, not, ◌&&◌, nat_le, ◌==◌, if◌then◌else◌, List, map, filter, Option, Some, option_map}
 use Rattle.std.specs.Option.{option_map_or}
 use Rattle.venue_words.specs.declared.row.Priced.{Priced}
-use Rattle.venue_words.specs.declared.command.Terms.{Terms}
+use Rattle.venue_words.specs.declared.terms.Terms.{Terms}
 use Rattle.venue_words.specs.declared.rule.Rule.{Rule}
 use Rattle.venue_words.specs.declared.report.Execution.TheVariants.{Canceled, Replaced}
 use Rattle.venue_words.specs.declared.report.Kind.{Kind}

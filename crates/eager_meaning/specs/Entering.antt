@@ -3,7 +3,7 @@ use Rattle.std.specs.Prelude.{ℕ, Bool, if◌then◌else◌, List, [], ◌∷�
 use Rattle.std.specs.Option.{option_map_or}
 use Rattle.venue_words.specs.declared.row.Row.{Row}
 use Rattle.venue_words.specs.declared.row.Priced.{Priced}
-use Rattle.venue_words.specs.declared.command.Terms.{Terms}
+use Rattle.venue_words.specs.declared.terms.Terms.{Terms}
 use Rattle.venue_words.specs.declared.rule.Rule.{Rule}
 use Rattle.venue_words.specs.declared.report.Execution.TheVariants.{Accepted, Canceled}
 use Rattle.venue_words.specs.declared.report.Kind.TheVariants.{Order as OrderReport, Rejected}

@@ -15,7 +15,7 @@ use Rattle.venue_words.specs.declared.row.Rounding.{Rounding}
 use Rattle.venue_words.specs.declared.row.Rounding.TheVariants.{Unrounded, Aggressive, Passive}
 use Rattle.venue_words.specs.declared.row.Method.{Method}
 use Rattle.venue_words.specs.declared.row.Method.TheVariants.{Once, Multiple}
-use Rattle.venue_words.specs.declared.command.Terms.{Terms}
+use Rattle.venue_words.specs.declared.terms.Terms.{Terms}
 use Rattle.venue_words.specs.Price.{value_of}
 use Rattle.eager_meaning.specs.declared.amount.TheConstants.{ONE_AMOUNT, UNIT_AMOUNT}
 

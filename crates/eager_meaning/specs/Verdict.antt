@@ -5,7 +5,7 @@ use Rattle.venue_words.specs.declared.price.Side.{Side}
 use Rattle.venue_words.specs.declared.price.Side.TheVariants.{Buy, Sell}
 use Rattle.venue_words.specs.declared.rule.Rule.{Rule}
 use Rattle.venue_words.specs.declared.rule.Rule.TheVariants as rule
-use Rattle.venue_words.specs.declared.command.Terms.{Terms}
+use Rattle.venue_words.specs.declared.terms.Terms.{Terms}
 use Rattle.venue_words.specs.declared.command.Command.{Command}
 use Rattle.venue_words.specs.declared.command.Command.TheVariants.{Quote, New, Cancel, Replace, Status}
 use Rattle.eager_meaning.specs.declared.known.Known.{Known}

@@ -1,5 +1,5 @@
 //! Orders as a book keeps them.
-use venue_words::{Bytes, Priced, Side};
+use venue_words::{Id, Priced, Side};
 
 /// What is kept of an accepted order, live or not. Its number is its place in the list of all of them, from 0.
 #[derive(Debug, Drop)]
@@ -8,7 +8,7 @@ pub struct Order {
     /// The number of the event of its New, from which OrderID(37) is made.
     pub first: u32,
     /// The ClOrdID(11) that names it at present: that of its New, or of its last accepted Replace.
-    pub id: Bytes,
+    pub id: Id,
     pub side: Side,
     /// OrderQty(38) in shares.
     pub quantity: u32,

@@ -181,7 +181,7 @@ pub fn verdict(command: &Command, known: &Known) -> Option<Rule>
         Command::Quote { .. } | Command::Status { .. } => first_broken(&[]),
         Command::New { terms, .. } => {
             let terms = terms.get();
-            first_of(&new_tests(terms, known), &terms_tests(known.tick, terms))
+            first_of(&new_tests(&terms, known), &terms_tests(known.tick, &terms))
         }
         Command::Cancel { .. } => first_broken(&[
             (known.used, Rule::UsedId),
@@ -189,10 +189,10 @@ pub fn verdict(command: &Command, known: &Known) -> Option<Rule>
         ]),
         Command::Replace { terms, .. } => {
             let terms = terms.get();
-            let is_traded = quantity_of(terms) <= known.cum;
+            let is_traded = quantity_of(&terms) <= known.cum;
             first_of_three(
-                &replace_tests(terms, known),
-                &terms_tests(known.tick, terms),
+                &replace_tests(&terms, known),
+                &terms_tests(known.tick, &terms),
                 &[(is_traded, Rule::TradedQuantity)],
             )
         }

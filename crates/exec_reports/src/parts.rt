@@ -4,7 +4,7 @@ ghost use Rattle.std.specs.Option.{option_copied};
 ghost use Rattle.exec_reports.specs.Parts.{view_in, standing_in, first_in, id_in, orig_in, exec_type, status_in, reason_in, side_in, type_code, type_in, limit_in, last_quantity_in, last_price_in, leaves_in, cum_in, notional_in, price_in, time_in, rule_in, answer_in, refusal_in, is_refusal};
 
 use crate::codes::{refuse_reason, reject_reason, request_code, side_code, status_code};
-use venue_words::{Bytes, Execution, Kind, LiveOrder, View};
+use venue_words::{Execution, Id, Kind, LiveOrder, View};
 
 /// The order that a report shows.
 #[tactic(auto, unfolding(crate::specs::Parts::view_in))]
@@ -58,7 +58,7 @@ pub fn id_of(kind: &Kind) -> &[u8]
 
 /// OrigClOrdID(41).
 #[tactic(auto, unfolding(crate::specs::Parts::orig_in))]
-pub fn orig_of(kind: &Kind) -> Option<&Bytes>
+pub fn orig_of(kind: &Kind) -> Option<&Id>
     ensures { option_copied result ≡ orig_in kind.now }
 {
     match kind {

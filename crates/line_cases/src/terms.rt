@@ -1,7 +1,7 @@
 //! Values of prices, national quotes, lists and states of orders.
 use case_text::{Told, Words};
 use venue_words::{
-    Best, Bytes, Items, LiveOrder, NoMemory, PRICE_END, Side, View, price_of, value,
+    Best, Bytes, Id, Items, LiveOrder, NoMemory, PRICE_END, Side, View, price_of, value,
 };
 
 fn side_of(words: &Words<'_>) -> Side {
@@ -53,7 +53,7 @@ fn tell_status(words: &Words<'_>, told: &mut Told) -> Result<(), NoMemory> {
     };
     let view = View {
         first: 1,
-        id: Bytes::copy_of(told.alloc, b"a1")?,
+        id: Id::copy_of(told.alloc, b"a1")?,
         side: Side::Buy,
         quantity: 100,
         pegged: true,

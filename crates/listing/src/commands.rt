@@ -85,7 +85,7 @@ pub fn push_command(
         }
         Command::New { member, id, terms } => {
             push_field(fields, CL_ORD_ID, id.as_slice())?;
-            push_terms(fields, terms.get())?;
+            push_terms(fields, &terms.get())?;
             (MessageType::NewOrder, *member)
         }
         Command::Cancel { member, id, orig } => {
@@ -101,7 +101,7 @@ pub fn push_command(
         } => {
             push_field(fields, CL_ORD_ID, id.as_slice())?;
             push_field(fields, ORIG_CL_ORD_ID, orig.as_slice())?;
-            push_terms(fields, terms.get())?;
+            push_terms(fields, &terms.get())?;
             (MessageType::ReplaceRequest, *member)
         }
         Command::Status { member, id, side } => {

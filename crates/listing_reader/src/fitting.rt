@@ -7,7 +7,7 @@ ghost use Rattle.listing_reader.specs.Fitting.{is_space, is_word, are_words, has
 
 use fix_fields::{FIRST_MOMENT, LAST_MOMENT};
 use venue_words::limits::{MAX_CENTS, MAX_ID_BYTES, SOH};
-use venue_words::{Bytes, Command, Config, Event, Terms};
+use venue_words::{Bytes, Command, Config, Event, Id, Terms};
 
 /// Numbers are below it: they have at most nine digits.
 const NUMBER_END: u32 = 1_000_000_000;
@@ -63,7 +63,7 @@ fn fits_code(code: u8) -> bool
     code != SOH
 }
 
-fn fits_text(text: &Bytes) -> bool
+fn fits_text(text: &Id) -> bool
     ensures { result ≡ fits_text text.now }
 {
     text.as_slice().iter().all(|byte| fits_code(*byte))
@@ -139,14 +139,14 @@ fn fits_fields(command: &Command) -> bool
 {
     match command {
         Command::Quote { .. } => true,
-        Command::New { id, terms, .. } => fits_text(id) && fits_terms(terms.get()),
+        Command::New { id, terms, .. } => fits_text(id) && fits_terms(&terms.get()),
         Command::Cancel { id, orig, .. } => fits_text(id) && fits_text(orig),
         Command::Replace {
             id,
             orig,
             terms,
             ..
-        } => fits_text(id) && (fits_text(orig) && fits_terms(terms.get())),
+        } => fits_text(id) && (fits_text(orig) && fits_terms(&terms.get())),
         Command::Status { id, side, .. } => fits_text(id) && fits_code(*side),
     }
 }
@@ -160,7 +160,7 @@ fn fits_quote(price: Option<u32>) -> bool
     }
 }
 
-fn fits_id(id: &Bytes) -> bool
+fn fits_id(id: &Id) -> bool
     ensures { result ≡ fits_id id.now }
 {
     id.as_slice().len() <= MAX_ID_BYTES

@@ -3,7 +3,7 @@ use case_text::Words;
 use fix_fields::amount;
 use quote_intake::price;
 use std::alloc::AllocError;
-use venue_words::{BoxedTerms, Bytes, Command, Terms};
+use venue_words::{BoxedTerms, Command, Id, Terms};
 
 /// The number of a member by its letter.
 fn member_of(name: &[u8]) -> u32 {
@@ -68,7 +68,7 @@ fn new_of(words: &Words<'_>) -> Result<Option<Command>, AllocError> {
     };
     Ok(Some(Command::New {
         member: member_of(words.at(0)),
-        id: Bytes::copy_of(words.alloc, words.at(1))?,
+        id: Id::copy_of(words.alloc, words.at(1))?,
         terms: BoxedTerms::new(words.alloc, terms)?,
     }))
 }
@@ -80,8 +80,8 @@ fn replace_of(words: &Words<'_>) -> Result<Option<Command>, AllocError> {
     };
     Ok(Some(Command::Replace {
         member: member_of(words.at(0)),
-        id: Bytes::copy_of(words.alloc, words.at(1))?,
-        orig: words.copy(b"orig")?,
+        id: Id::copy_of(words.alloc, words.at(1))?,
+        orig: words.id(b"orig")?,
         terms: BoxedTerms::new(words.alloc, terms)?,
     }))
 }
@@ -90,8 +90,8 @@ fn replace_of(words: &Words<'_>) -> Result<Option<Command>, AllocError> {
 fn cancel_of(words: &Words<'_>) -> Result<Option<Command>, AllocError> {
     Ok(Some(Command::Cancel {
         member: member_of(words.at(0)),
-        id: Bytes::copy_of(words.alloc, words.at(1))?,
-        orig: words.copy(b"orig")?,
+        id: Id::copy_of(words.alloc, words.at(1))?,
+        orig: words.id(b"orig")?,
     }))
 }
 
@@ -99,7 +99,7 @@ fn cancel_of(words: &Words<'_>) -> Result<Option<Command>, AllocError> {
 fn status_of(words: &Words<'_>) -> Result<Option<Command>, AllocError> {
     Ok(Some(Command::Status {
         member: member_of(words.at(0)),
-        id: Bytes::copy_of(words.alloc, words.at(1))?,
+        id: Id::copy_of(words.alloc, words.at(1))?,
         side: b'1',
     }))
 }

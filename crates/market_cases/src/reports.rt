@@ -2,7 +2,7 @@
 use crate::ticks::{show_price, show_ten_thousandths};
 use case_text::Told;
 use std::fmt::Display;
-use venue_words::{Bytes, Execution, Kind, NamedOrder, OrderStatus, RefusedRequest, Report, View};
+use venue_words::{Execution, Id, Kind, NamedOrder, OrderStatus, RefusedRequest, Report, View};
 
 fn tell_name(name: &str, told: &mut Told) {
     told.push(" ");
@@ -31,7 +31,7 @@ fn tell_status(status: OrderStatus, told: &mut Told) {
 }
 
 /// Tells what is said of an id, and which one that takes the place of.
-fn tell_head(what: &str, id: &Bytes, orig: Option<&Bytes>, told: &mut Told) {
+fn tell_head(what: &str, id: &Id, orig: Option<&Id>, told: &mut Told) {
     told.push(" ");
     told.push(what);
     told.push(" ");

@@ -5,7 +5,7 @@ use Rattle.std.specs.List.{AllByRecursion}
 use Rattle.std.proofs.lemmas.Bool.{ne_eqb, eq-eqb}
 use Rattle.venue_words.specs.declared.command.Command.TheVariants.{Replace}
 use Rattle.venue_words.specs.declared.rule.Rule.{Rule}
-use Rattle.venue_words.specs.declared.command.Terms.{Terms}
+use Rattle.venue_words.specs.declared.terms.Terms.{Terms}
 use Rattle.venue_words.specs.declared.row.Row.{Row}
 use Rattle.venue_words.specs.declared.row.Priced.{Priced}
 use Rattle.venue_words.specs.ListLaws.{all_weaken, all_both, all_append, all_parts}

@@ -4,7 +4,7 @@ use Rattle.std.specs.List.{AllByRecursion}
 use Rattle.venue_words.specs.declared.command.Command.TheVariants.{New}
 use Rattle.venue_words.specs.declared.command.Event.{Event}
 use Rattle.venue_words.specs.declared.rule.Rule.{Rule}
-use Rattle.venue_words.specs.declared.command.Terms.{Terms}
+use Rattle.venue_words.specs.declared.terms.Terms.{Terms}
 use Rattle.venue_words.specs.declared.report.Execution.TheVariants.{Accepted}
 use Rattle.venue_words.specs.declared.report.Kind.{Kind}
 use Rattle.venue_words.specs.declared.report.Kind.TheVariants.{Order, Rejected}

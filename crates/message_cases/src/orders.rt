@@ -59,7 +59,7 @@ fn tell_decoded(decoded: &Decoded, told: &mut Told) -> Result<(), NoMemory> {
             told.show(member);
             told.push(": ");
             told.bytes(id.as_slice());
-            told.code(terms.get());
+            told.code(&terms.get());
             Ok(())
         }
         Decoded::Book { .. } => {

@@ -23,7 +23,7 @@ fn view_of(words: &Words<'_>) -> Result<View, AllocError> {
     };
     Ok(View {
         first: words.number(b"first").unwrap_or(0),
-        id: words.copy(b"id")?,
+        id: words.id(b"id")?,
         side: if words.has(b"sell") {
             Side::Sell
         } else {
@@ -48,12 +48,12 @@ fn execution_of(words: &Words<'_>) -> Result<Execution, AllocError> {
         },
         b"canceled" => Execution::Canceled {
             orig: match words.value(b"orig") {
-                Some(_) => Some(words.copy(b"orig")?),
+                Some(_) => Some(words.id(b"orig")?),
                 None => None,
             },
         },
         b"replaced" => Execution::Replaced {
-            orig: words.copy(b"orig")?,
+            orig: words.id(b"orig")?,
         },
         _ => Execution::Status,
     })
@@ -78,8 +78,8 @@ fn refused_of(words: &Words<'_>, request: RefusedRequest) -> Result<Kind, AllocE
         None => None,
     };
     Ok(Kind::Refused {
-        id: words.copy(b"id")?,
-        orig: words.copy(b"orig")?,
+        id: words.id(b"id")?,
+        orig: words.id(b"orig")?,
         order,
         request,
         rule: rule_of(words),
@@ -90,13 +90,13 @@ fn refused_of(words: &Words<'_>, request: RefusedRequest) -> Result<Kind, AllocE
 fn kind_of(words: &Words<'_>) -> Result<Kind, AllocError> {
     Ok(match words.at(2) {
         b"rejected" => Kind::Rejected {
-            id: words.copy(b"id")?,
+            id: words.id(b"id")?,
             side: words.byte(b"side"),
             quantity: words.value(b"quantity").and_then(amount).unwrap_or(0),
             rule: rule_of(words),
         },
         b"unknown" => Kind::Unknown {
-            id: words.copy(b"id")?,
+            id: words.id(b"id")?,
             side: words.byte(b"side"),
         },
         b"refused_cancel" => refused_of(words, RefusedRequest::Cancel)?,

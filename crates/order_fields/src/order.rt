@@ -5,7 +5,7 @@ ghost use Rattle.venue_words.specs.Conditions.{IsConfig};
 ghost use Rattle.venue_words.specs.Floors.{setup_of};
 ghost use Rattle.order_fields.specs.Order.{command_of, stray_refusal, stray_kind, symbol_of, decoded_of, order, Answers, CanSubmit};
 
-use crate::reading::{amount_or_zero, code_or_zero, copy_of, terms_of};
+use crate::reading::{amount_or_zero, code_or_zero, id_in, terms_of};
 use crate::tables::{optional_of, required_of};
 use crate::tags::{CL_ORD_ID, ORDER_QTY, ORIG_CL_ORD_ID, SIDE, SYMBOL};
 use fix_fields::Field;
@@ -14,7 +14,7 @@ use session_core::lookup::text_in;
 use session_core::{Request, first_failed};
 use std::alloc::Global;
 use venue_words::{
-    BoxedTerms, Bytes, Command, Config, Kind, NoMemory, RefusedRequest, Report, Rule,
+    BoxedTerms, Bytes, Command, Config, Id, Kind, NoMemory, RefusedRequest, Report, Rule,
 };
 
 /// Why a message does not reach a book. Nothing is changed by it.
@@ -48,7 +48,7 @@ pub fn command_of(
 ) -> Result<Command, NoMemory>
     ensures { IfOk result (λ command. command ≡ command_of kind member fields.now) }
 {
-    let id = copy_of(alloc, CL_ORD_ID, fields)?;
+    let id = id_in(alloc, CL_ORD_ID, fields)?;
     match kind {
         MessageType::NewOrder => Ok(Command::New {
             member,
@@ -58,12 +58,12 @@ pub fn command_of(
         MessageType::CancelRequest => Ok(Command::Cancel {
             member,
             id,
-            orig: copy_of(alloc, ORIG_CL_ORD_ID, fields)?,
+            orig: id_in(alloc, ORIG_CL_ORD_ID, fields)?,
         }),
         MessageType::ReplaceRequest => Ok(Command::Replace {
             member,
             id,
-            orig: copy_of(alloc, ORIG_CL_ORD_ID, fields)?,
+            orig: id_in(alloc, ORIG_CL_ORD_ID, fields)?,
             terms: BoxedTerms::new(alloc, terms_of(fields))?,
         }),
         _ => Ok(Command::Status {
@@ -78,14 +78,14 @@ pub fn command_of(
 fn refused(
     alloc: Global,
     fields: &[Field<'_>],
-    id: Bytes,
+    id: Id,
     request: RefusedRequest,
 ) -> Result<Kind, NoMemory>
     ensures { IfOk result (λ kind. kind ≡ stray_refusal fields.now id request) }
 {
     Ok(Kind::Refused {
         id,
-        orig: copy_of(alloc, ORIG_CL_ORD_ID, fields)?,
+        orig: id_in(alloc, ORIG_CL_ORD_ID, fields)?,
         order: None,
         request,
         rule: Rule::UnknownSymbol,
@@ -97,7 +97,7 @@ fn refused(
 fn stray_kind(alloc: Global, kind: MessageType, fields: &[Field<'_>]) -> Result<Kind, NoMemory>
     ensures { IfOk result (λ answer. answer ≡ stray_kind kind fields.now) }
 {
-    let id = copy_of(alloc, CL_ORD_ID, fields)?;
+    let id = id_in(alloc, CL_ORD_ID, fields)?;
     match kind {
         MessageType::NewOrder => Ok(Kind::Rejected {
             id,

@@ -10,13 +10,13 @@ use crate::tags::{
 use fix_fields::{Field, amount};
 use session_core::lookup::{number_in, single_byte, text_in, value_of};
 use std::alloc::Global;
-use venue_words::{Bytes, NoMemory, Terms};
+use venue_words::{Id, NoMemory, Terms};
 
-/// A copy of the value of a tag.
-pub fn copy_of(alloc: Global, tag: u32, fields: &[Field<'_>]) -> Result<Bytes, NoMemory>
-    ensures { IfOk result (λ bytes. bytes ≡ text_in tag fields.now) }
+/// The id that is the value of a tag.
+pub fn id_in(alloc: Global, tag: u32, fields: &[Field<'_>]) -> Result<Id, NoMemory>
+    ensures { IfOk result (λ id. id ≡ text_in tag fields.now) }
 {
-    Ok(Bytes::copy_of(alloc, text_in(tag, fields))?)
+    Ok(Id::copy_of(alloc, text_in(tag, fields))?)
 }
 
 /// The code of a tag, which is one byte.

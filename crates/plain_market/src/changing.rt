@@ -17,8 +17,8 @@ use crate::views::{view_closed, view_of};
 use eager_meaning::{Live, Notice, Order, is_immediate, is_pegged, limit_of, quantity_of, row_of};
 use std::alloc::{AllocError, Global};
 use venue_words::{
-    Bytes, Execution, Kind, Method, NamedOrder, OrderStatus, Priced, RefusedRequest, Row, Rule,
-    Terms, same_key,
+    Execution, Id, Kind, Method, NamedOrder, OrderStatus, Priced, RefusedRequest, Row, Rule, Terms,
+    same_key,
 };
 
 /// How a refusal names a live order.
@@ -35,16 +35,16 @@ fn named_order(live: &Live) -> NamedOrder
 fn refusal(
     alloc: Global,
     request: RefusedRequest,
-    id: &Bytes,
-    orig: &Bytes,
+    id: &Id,
+    orig: &Id,
     live: &Option<Live>,
     rule: Rule,
 ) -> Result<Kind, AllocError>
     ensures { IfOk result (λ kind. kind ≡ refusal request id.now orig.now live.now rule) }
 {
     Ok(Kind::Refused {
-        id: Bytes::copy_of(alloc, id.as_slice())?,
-        orig: Bytes::copy_of(alloc, orig.as_slice())?,
+        id: Id::copy_of(alloc, id.as_slice())?,
+        orig: Id::copy_of(alloc, orig.as_slice())?,
         order: live.as_ref().map(named_order),
         request,
         rule,
@@ -52,13 +52,13 @@ fn refusal(
 }
 
 /// What is told of an order that a Cancel takes out: it has the id of the Cancel.
-fn canceled(alloc: Global, id: &Bytes, orig: &Bytes, order: &Order) -> Result<Kind, AllocError>
+fn canceled(alloc: Global, id: &Id, orig: &Id, order: &Order) -> Result<Kind, AllocError>
     ensures { IfOk result (λ kind. kind
         ≡ OrderReport (record (view_closed order.now) { id = id.now }) (Canceled (Some orig.now))) }
 {
     let mut view = view_closed(alloc, order)?;
-    view.id = Bytes::copy_of(alloc, id.as_slice())?;
-    let orig = Bytes::copy_of(alloc, orig.as_slice())?;
+    view.id = Id::copy_of(alloc, id.as_slice())?;
+    let orig = Id::copy_of(alloc, orig.as_slice())?;
     Ok(Kind::Order {
         view,
         execution: Execution::Canceled { orig: Some(orig) },
@@ -66,11 +66,11 @@ fn canceled(alloc: Global, id: &Bytes, orig: &Bytes, order: &Order) -> Result<Ki
 }
 
 /// What is told of a replaced order with its row.
-fn replaced(alloc: Global, orig: &Bytes, order: &Order, x: Priced) -> Result<Kind, AllocError>
+fn replaced(alloc: Global, orig: &Id, order: &Order, x: Priced) -> Result<Kind, AllocError>
     ensures { IfOk result (λ kind. kind ≡ OrderReport (view_of order.now (Some x)) (Replaced orig.now)) }
 {
     let view = view_of(alloc, order, Some(x))?;
-    let orig = Bytes::copy_of(alloc, orig.as_slice())?;
+    let orig = Id::copy_of(alloc, orig.as_slice())?;
     Ok(Kind::Order {
         view,
         execution: Execution::Replaced { orig },
@@ -120,7 +120,7 @@ fn all_with_leaves(
 fn replaced_order(
     alloc: Global,
     tick: u32,
-    id: &Bytes,
+    id: &Id,
     terms: &Terms,
     order: &Order,
 ) -> Result<Order, AllocError>
@@ -130,7 +130,7 @@ fn replaced_order(
     Ok(Order {
         member: order.member,
         first: order.first,
-        id: Bytes::copy_of(alloc, id.as_slice())?,
+        id: Id::copy_of(alloc, id.as_slice())?,
         side: order.side,
         quantity: quantity_of(terms),
         pegged: is_pegged(terms),
@@ -144,7 +144,7 @@ fn replaced_order(
 fn replace_order(
     alloc: Global,
     tick: u32,
-    id: &Bytes,
+    id: &Id,
     terms: &Terms,
     orders: &mut Vec<Order>,
     number: u32,
@@ -189,15 +189,10 @@ fn only_lowers(tick: u32, terms: &Terms, live: &Live) -> bool
 
 impl Plain {
     /// The member used up an id.
-    pub(crate) fn use_id(
-        &mut self,
-        alloc: Global,
-        member: u32,
-        id: &Bytes,
-    ) -> Result<(), AllocError>
+    pub(crate) fn use_id(&mut self, alloc: Global, member: u32, id: &Id) -> Result<(), AllocError>
         ensures { IfOk result (λ _. self.new ≡ with_used member id.now self.old) }
     {
-        let copy = Bytes::copy_of(alloc, id.as_slice())?;
+        let copy = Id::copy_of(alloc, id.as_slice())?;
         self.used.push((member, copy))?;
         Ok(())
     }
@@ -217,8 +212,8 @@ impl Plain {
         &mut self,
         alloc: Global,
         member: u32,
-        id: &Bytes,
-        orig: &Bytes,
+        id: &Id,
+        orig: &Id,
         live: &Live,
     ) -> Result<Vec<Notice>, AllocError>
         ensures state { IfOk result (λ _. self.new ≡ (cancel member id.now orig.now live.now self.old).state) }
@@ -236,8 +231,8 @@ impl Plain {
     pub(crate) fn on_cancel(
         &mut self,
         asked: Asked,
-        id: &Bytes,
-        orig: &Bytes,
+        id: &Id,
+        orig: &Id,
         live: &Option<Live>,
         broken: Option<Rule>,
     ) -> Result<Vec<Notice>, AllocError>
@@ -261,7 +256,7 @@ impl Plain {
         &mut self,
         alloc: Global,
         tick: u32,
-        id: &Bytes,
+        id: &Id,
         terms: &Terms,
         number: u32,
     ) -> Result<(), AllocError>
@@ -276,7 +271,7 @@ impl Plain {
     fn set_terms(
         &mut self,
         asked: Asked,
-        id: &Bytes,
+        id: &Id,
         terms: &Terms,
         live: &Live,
     ) -> Result<(), AllocError>
@@ -292,8 +287,8 @@ impl Plain {
     fn resize(
         &mut self,
         asked: Asked,
-        id: &Bytes,
-        orig: &Bytes,
+        id: &Id,
+        orig: &Id,
         terms: &Terms,
         live: &Live,
     ) -> Result<Vec<Notice>, AllocError>
@@ -318,8 +313,8 @@ impl Plain {
     fn reenter(
         &mut self,
         asked: Asked,
-        id: &Bytes,
-        orig: &Bytes,
+        id: &Id,
+        orig: &Id,
         terms: &Terms,
         live: &Live,
     ) -> Result<Vec<Notice>, AllocError>
@@ -359,8 +354,8 @@ impl Plain {
     pub(crate) fn on_replace(
         &mut self,
         asked: Asked,
-        id: &Bytes,
-        orig: &Bytes,
+        id: &Id,
+        orig: &Id,
         terms: &Terms,
         live: &Option<Live>,
         broken: Option<Rule>,

@@ -16,7 +16,7 @@ use eager_meaning::{
 };
 use std::alloc::{AllocError, Global};
 use std::marker::Model;
-use venue_words::{Bytes, Execution, Kind, Priced, Row, Rule, Side, Terms};
+use venue_words::{Execution, Id, Kind, Priced, Row, Rule, Side, Terms};
 
 /// The rows and trades after an order entered, and what is left of it.
 #[derive(Drop)]
@@ -122,7 +122,7 @@ fn accepted_order(
     tick: u32,
     event: u32,
     member: u32,
-    id: &Bytes,
+    id: &Id,
     terms: &Terms,
 ) -> Result<Order, AllocError>
     requires { IsTick tick }
@@ -131,7 +131,7 @@ fn accepted_order(
     Ok(Order {
         member,
         first: event,
-        id: Bytes::copy_of(alloc, id.as_slice())?,
+        id: Id::copy_of(alloc, id.as_slice())?,
         side: side_of(terms),
         quantity: quantity_of(terms),
         pegged: is_pegged(terms),
@@ -203,7 +203,7 @@ impl Plain {
         &mut self,
         alloc: Global,
         member: u32,
-        id: &Bytes,
+        id: &Id,
         order: Order,
     ) -> Result<(), AllocError>
         ensures { IfOk result (λ _. self.new ≡ with_accepted member id.now order self.old) }
@@ -214,7 +214,7 @@ impl Plain {
 
     /// An order is accepted and enters.
     #[tactic(auto, unfolding(eager_meaning::specs::Entering::arrival_of_new))]
-    fn accept(&mut self, asked: Asked, id: &Bytes, terms: &Terms) -> Result<Vec<Notice>, AllocError>
+    fn accept(&mut self, asked: Asked, id: &Id, terms: &Terms) -> Result<Vec<Notice>, AllocError>
         requires { IsTick asked.tick }
         ensures state { IfOk result (λ _. self.new
             ≡ (enter (arrival_of_new asked.tick asked.event asked.member id.now terms.now self.old)).state) }
@@ -252,7 +252,7 @@ impl Plain {
     pub(crate) fn on_new(
         &mut self,
         asked: Asked,
-        id: &Bytes,
+        id: &Id,
         terms: &Terms,
         broken: Option<Rule>,
     ) -> Result<Vec<Notice>, AllocError>
@@ -265,7 +265,7 @@ impl Plain {
         match broken {
             Some(rule) => {
                 let kind = Kind::Rejected {
-                    id: Bytes::copy_of(asked.alloc, id.as_slice())?,
+                    id: Id::copy_of(asked.alloc, id.as_slice())?,
                     side: terms.side,
                     quantity: terms.quantity,
                     rule,

@@ -5,7 +5,7 @@ ghost use Rattle.eager_meaning.specs.Orders.{is_named, order_named, live_named, 
 use crate::views::row_of_order;
 use eager_meaning::{Known, Live, Order};
 use std::alloc::{AllocError, Global};
-use venue_words::{Bytes, Priced, Side};
+use venue_words::{Id, Priced, Side};
 
 /// A copy of an order.
 pub fn copy_of(alloc: Global, order: &Order) -> Result<Order, AllocError>
@@ -14,7 +14,7 @@ pub fn copy_of(alloc: Global, order: &Order) -> Result<Order, AllocError>
     Ok(Order {
         member: order.member,
         first: order.first,
-        id: Bytes::copy_of(alloc, order.id.as_slice())?,
+        id: Id::copy_of(alloc, order.id.as_slice())?,
         side: order.side,
         quantity: order.quantity,
         pegged: order.pegged,
@@ -73,7 +73,7 @@ pub fn live_named(
 
 /// Whether the member used up the id.
 #[tactic(auto, unfolding(eager_meaning::specs::Orders::is_used))]
-pub fn is_used(member: u32, id: &[u8], used: &[(u32, Bytes)]) -> bool
+pub fn is_used(member: u32, id: &[u8], used: &[(u32, Id)]) -> bool
     ensures { result ≡ is_used member id.now used.now }
 {
     for pair in used {

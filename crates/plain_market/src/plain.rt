@@ -10,7 +10,7 @@ use crate::views::{row_of_order, view_of};
 use eager_meaning::{Live, Notice, Order, verdict};
 use std::alloc::{AllocError, Global};
 use std::marker::Model;
-use venue_words::{Best, Bytes, Command, Config, Event, Execution, Kind, NoMemory, Priced, Report};
+use venue_words::{Best, Command, Config, Event, Execution, Id, Kind, NoMemory, Priced, Report};
 
 /// The book of a symbol as plain lists.
 #[derive(Drop)]
@@ -19,7 +19,7 @@ pub struct Plain {
     pub(crate) buys: Vec<Priced>,
     pub(crate) sells: Vec<Priced>,
     pub(crate) orders: Vec<Order>,
-    pub(crate) used: Vec<(u32, Bytes)>,
+    pub(crate) used: Vec<(u32, Id)>,
 }
 
 impl Model for Plain {
@@ -69,7 +69,7 @@ impl Plain {
     }
 
     /// The member's live order with this id.
-    fn live(&self, alloc: Global, member: u32, id: &Bytes) -> Result<Option<Live>, AllocError>
+    fn live(&self, alloc: Global, member: u32, id: &Id) -> Result<Option<Live>, AllocError>
         ensures { IfOk result (λ live. live ≡ live_named member id.now self.now.orders (resting self.now)) }
     {
         let rows = both(alloc, &self.buys, &self.sells)?;
@@ -82,7 +82,7 @@ impl Plain {
         &self,
         alloc: Global,
         member: u32,
-        id: &Bytes,
+        id: &Id,
         side: u8,
     ) -> Result<Vec<Notice>, AllocError>
         ensures state { (on_status member id.now side self.now).state ≡ self.now }
@@ -95,7 +95,7 @@ impl Plain {
                 execution: Execution::Status,
             },
             None => Kind::Unknown {
-                id: Bytes::copy_of(alloc, id.as_slice())?,
+                id: Id::copy_of(alloc, id.as_slice())?,
                 side,
             },
         };
@@ -127,7 +127,7 @@ impl Plain {
                 let used = is_used(*member, id.as_slice(), &self.used);
                 let broken = verdict(command, &known_of(tick, used, &None));
                 let asked = Asked::new(alloc, tick, event, *member);
-                self.on_new(asked, id, terms.get(), broken)
+                self.on_new(asked, id, &terms.get(), broken)
             }
             Command::Cancel { member, id, orig } => {
                 let live = self.live(alloc, *member, orig)?;
@@ -146,7 +146,7 @@ impl Plain {
                 let used = is_used(*member, id.as_slice(), &self.used);
                 let broken = verdict(command, &known_of(tick, used, &live));
                 let asked = Asked::new(alloc, tick, event, *member);
-                self.on_replace(asked, id, orig, terms.get(), &live, broken)
+                self.on_replace(asked, id, orig, &terms.get(), &live, broken)
             }
             Command::Status { member, id, side } => self.on_status(alloc, *member, id, *side),
         }

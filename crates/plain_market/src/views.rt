@@ -4,7 +4,7 @@ ghost use Rattle.eager_meaning.specs.Showing.{view_with, view_closed, view_trade
 
 use eager_meaning::{Order, Party, live_at};
 use std::alloc::{AllocError, Global};
-use venue_words::{Bytes, LiveOrder, Priced, View};
+use venue_words::{Id, LiveOrder, Priced, View};
 
 /// An order with what it has while it is live.
 #[tactic(auto, unfolding(eager_meaning::specs::Showing::view_with))]
@@ -13,7 +13,7 @@ fn view_with(alloc: Global, order: &Order, live: Option<LiveOrder>) -> Result<Vi
 {
     Ok(View {
         first: order.first,
-        id: Bytes::copy_of(alloc, order.id.as_slice())?,
+        id: Id::copy_of(alloc, order.id.as_slice())?,
         side: order.side,
         quantity: order.quantity,
         pegged: order.pegged,

@@ -3,10 +3,9 @@ use Rattle.std.proofs.Common.{◌≡◌, ℕ, ◌<◌, ◌≤◌, Bool, true, fa
 use Rattle.std.specs.Prelude.{Option, Some, None, is_none, unwrap_or, ℤ, pos, negsuc, option_map, option_and_then, unsigned_abs}
 use Rattle.std.proofs.lemmas.Bool.Decides.{nat_tests}
 use Rattle.venue_words.specs.declared.command.Command.TheVariants.{New}
-use Rattle.venue_words.specs.declared.command.Terms.{Terms}
-use Rattle.std.specs.Prelude.{length, ◌++◌, All}
+use Rattle.venue_words.specs.declared.terms.Terms.{Terms}
+use Rattle.std.specs.Prelude.{◌++◌, All}
 use Rattle.std.proofs.lemmas.List.Elements.{All-append}
-use Rattle.venue_words.specs.declared.limits.TheConstants.{MAX_ID_BYTES}
 use Rattle.venue_words.specs.declared.rule.Rule.{Rule}
 use Rattle.eager_meaning.specs.declared.known.Known.{Known}
 use Rattle.eager_meaning.specs.declared.order.Order.{Order}
@@ -50,15 +49,15 @@ is_fresh member id terms known p = first_holds _ _ _ p
 pub ruleset unbroken = (has_shares, is_fresh)
 
 -- an accepted order is small
-small_order : (tick event member : ℕ) (id : List ℕ) (terms : Terms) → length id ≤ MAX_ID_BYTES → IsSmall (accepted_order tick event member id terms)
+small_order : (tick event member : ℕ) (id : List ℕ) (terms : Terms) → IsSmall (accepted_order tick event member id terms)
 unfolding accepted_order
-small_order tick event member id terms short =
-    record { short = short; within = omega arith; few = quantity_most terms; worth = omega arith }
+small_order tick event member id terms =
+    record { within = omega arith; few = quantity_most terms; worth = omega arith }
 
 -- so all are with it
-pub small_more : (tick event member : ℕ) (id : List ℕ) (terms : Terms) (orders : List Order) → All IsSmall orders → length id ≤ MAX_ID_BYTES → All IsSmall (orders ++ accepted_order tick event member id terms ∷ [])
-small_more tick event member id terms orders small short =
-    All-append IsSmall orders (accepted_order tick event member id terms ∷ []) small (all_one IsSmall _ (small_order tick event member id terms short))
+pub small_more : (tick event member : ℕ) (id : List ℕ) (terms : Terms) (orders : List Order) → All IsSmall orders → All IsSmall (orders ++ accepted_order tick event member id terms ∷ [])
+small_more tick event member id terms orders small =
+    All-append IsSmall orders (accepted_order tick event member id terms ∷ []) small (all_one IsSmall _ (small_order tick event member id terms))
   where
     all_one : (P : Order → Type 0) (x : Order) → P x → All P (x ∷ [])
     all_one P x p = grind (arith, p)

@@ -20,11 +20,6 @@ pub order_within : (before after width groups examined : ℕ) → after ≤ befo
 order_within before after width groups examined most narrow =
     widened before after _ _ most (mul-le-mul_right (examined + 1) (omega arith))
 
-pub request_within : (before after groups examined : ℕ) → after ≤ before + 512 → after ≤ before + 4096 * (groups + 1) * (examined + 1)
-request_within before after groups examined most =
-    let times : 512 * (examined + 1) ≤ 4096 * (groups + 1) * (examined + 1) = mul-le-mul_right (examined + 1) (omega arith) in
-    widened before after _ _ most (omega arith)
-
 one_key : (rows : List Priced) → 0 < length rows → 1 ≤ key_count rows
 one_key [] some = omega arith
 one_key (x ∷ []) some = omega arith

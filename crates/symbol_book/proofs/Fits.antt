@@ -1,11 +1,11 @@
 -- What a command needs of the state that it finds holds after every history.
-use Rattle.std.proofs.Common.{◌≡◌, ℕ, zero, suc, ◌+◌, ◌<◌, Bool, true, false, ◌&&◌, List, [], ◌∷◌, length, Some, refl, sym, subst, arith}
+use Rattle.std.proofs.Common.{◌≡◌, ℕ, zero, suc, ◌+◌, ◌<◌, ◌≤◌, Bool, true, false, ◌&&◌, List, [], ◌∷◌, length, Some, refl, sym, subst, arith}
 use Rattle.std.specs.Prelude.{nat_lt, slice_get, slice_index_or, slice_set}
 use Rattle.std.proofs.lemmas.Bool.Decides.{nat_tests}
 use Rattle.venue_words.specs.declared.command.Command.{Command}
 use Rattle.venue_words.specs.declared.command.Command.TheVariants.{Quote, New, Cancel, Replace, Status as Request}
 use Rattle.venue_words.specs.declared.command.Event.{Event}
-use Rattle.venue_words.specs.declared.command.Terms.{Terms}
+use Rattle.venue_words.specs.declared.terms.Terms.{Terms}
 use Rattle.venue_words.specs.declared.price.Side.{Side}
 use Rattle.venue_words.specs.declared.price.Side.TheVariants.{Buy, Sell}
 use Rattle.venue_words.specs.declared.row.Priced.{Priced}
@@ -22,7 +22,8 @@ use Rattle.market_laws.specs.Fitting.{TradeFits, FillsFit, QuoteTradesFit, NewTr
 use Rattle.market_laws.specs.Ids.{short_within_limits}
 use Rattle.market_laws.specs.QuantityLaws.{quantity_above}
 use Rattle.match_core.specs.BothSides.{own_of, others_of}
-use Rattle.symbol_book.specs.Commands.{takes_command}
+use Rattle.venue_words.specs.declared.limits.TheConstants.{MAX_ID_BYTES}
+use Rattle.symbol_book.specs.Commands.{id_bytes, takes_command}
 use Rattle.symbol_book.specs.Fitting.{CanWork, NewFits, ReplaceFits}
 use Rattle.symbol_book.specs.Orders.{HasLeft, HaveLeft}
 use Rattle.symbol_book.proofs.LiveRows.{at_within}
@@ -45,6 +46,16 @@ have_left (fill ∷ fills) orders fits = (has_left fill _ _ fits.0, has_left fil
 both_true : (a b : Bool) → (a && b) ≡ true → (a ≡ true) × (b ≡ true)
 both_true true b p = (refl, p)
 both_true false b p = cc
+
+-- the ids of a command that is taken are short
+pub id_within : (markets : ℕ) (command : Command) → takes_command markets command ≡ true → id_bytes command ≤ MAX_ID_BYTES
+id_within markets (Quote market bid offer) takes = omega arith
+id_within markets (New member id terms) takes =
+    short_within_limits (New member id terms) (both_true (fits_limits (New member id terms)) true takes).0
+id_within markets (Cancel member id orig) takes = omega arith
+id_within markets (Replace member id orig terms) takes =
+    (short_within_limits (Replace member id orig terms) (both_true (fits_limits (Replace member id orig terms)) true takes).0).0
+id_within markets (Request member id side) takes = omega arith
 
 less_than : (m n : ℕ) → nat_lt m n ≡ true → m < n
 less_than m n e = grind (arith, nat_tests)

@@ -11,5 +11,6 @@ pub mod Requests
 pub mod RestingOrders
 pub mod Rules
 pub mod SameBest
+pub mod Sending
 pub mod SmallOrders
 pub mod UsedNames

@@ -5,7 +5,7 @@ use Rattle.venue_words.specs.declared.command.Command.{Command}
 use Rattle.venue_words.specs.declared.command.Command.TheVariants.{Cancel, Replace, Status}
 use Rattle.venue_words.specs.declared.command.Event.{Event}
 use Rattle.venue_words.specs.declared.rule.Rule.{Rule}
-use Rattle.venue_words.specs.declared.command.Terms.{Terms}
+use Rattle.venue_words.specs.declared.terms.Terms.{Terms}
 use Rattle.venue_words.specs.declared.report.RefusedRequest.TheVariants.{Cancel as CancelRequest, Replace as ReplaceRequest}
 use Rattle.venue_words.specs.declared.report.Report.{Report}
 use Rattle.venue_words.specs.declared.row.Row.{Row}
@@ -31,24 +31,24 @@ nothing event before = record { all = λ rest. refl }
 
 module _ (tick : ℕ) (event : Event) (member : ℕ) (id orig : List ℕ) (room : Room) (s : State) (own : CopiesOwn member id room) (names : CopiesOrig member orig room) where
   -- the live order that the room's copy names is the one that the command names
-  pub live_is : (live : Option Live) → live_named room.orig.member room.orig.id.items s.orders (resting s) ≡ live → live_named member orig s.orders (resting s) ≡ live
+  pub live_is : (live : Option Live) → live_named room.orig.member room.orig.id s.orders (resting s) ≡ live → live_named member orig s.orders (resting s) ≡ live
   live_is live is =
-      sym (ap (λ (m : ℕ). live_named m room.orig.id.items s.orders (resting s)) names.owner ∙ ap (λ (i : List ℕ). live_named member i s.orders (resting s)) names.orig) ∙ is
+      sym (ap (λ (m : ℕ). live_named m room.orig.id s.orders (resting s)) names.owner ∙ ap (λ (i : List ℕ). live_named member i s.orders (resting s)) names.orig) ∙ is
 
-  used_is : is_used room.own.member room.own.id.items s.used ≡ is_used member id s.used
-  used_is = ap (λ (m : ℕ). is_used m room.own.id.items s.used) own.owner ∙ ap (λ (i : List ℕ). is_used member i s.used) own.own
+  used_is : is_used room.own.member room.own.id s.used ≡ is_used member id s.used
+  used_is = ap (λ (m : ℕ). is_used m room.own.id s.used) own.owner ∙ ap (λ (i : List ℕ). is_used member i s.used) own.own
 
   -- so is the rule
-  pub rule_is : (command : Command) (live : Option Live) (result : Option Rule) → event.command ≡ command → result ≡ verdict event.command (known_of tick (is_used room.own.member room.own.id.items s.used) live) → verdict command (known_of tick (is_used member id s.used) live) ≡ result
+  pub rule_is : (command : Command) (live : Option Live) (result : Option Rule) → event.command ≡ command → result ≡ verdict event.command (known_of tick (is_used room.own.member room.own.id s.used) live) → verdict command (known_of tick (is_used member id s.used) live) ≡ result
   rule_is command live result is e =
-      sym (e ∙ (ap (λ (x : Command). verdict x (known_of tick (is_used room.own.member room.own.id.items s.used) live)) is ∙ ap (λ (used : Bool). verdict command (known_of tick used live)) used_is))
+      sym (e ∙ (ap (λ (x : Command). verdict x (known_of tick (is_used room.own.member room.own.id s.used) live)) is ∙ ap (λ (used : Bool). verdict command (known_of tick used live)) used_is))
 
   module _ (entered : List (Option Row)) (entries : List UsedId) (before : List Report) (result : Option Rule) where
     -- ---- cancels
 
     module _ (command : event.command ≡ Cancel member id orig) where
-      pub cancel_refused : (live : Option Live) (rule : Rule) (after : List Report) (place : ℕ) → live_named room.orig.member room.orig.id.items s.orders (resting s) ≡ live → result ≡ verdict event.command (known_of tick (is_used room.own.member room.own.id.items s.used) live) → result ≡ Some rule
-          → Reports event before 1 (record { member = member; kind = refusal CancelRequest room.shown room.orig.id.items live rule } ∷ []) after place
+      pub cancel_refused : (live : Option Live) (rule : Rule) (after : List Report) (place : ℕ) → live_named room.orig.member room.orig.id s.orders (resting s) ≡ live → result ≡ verdict event.command (known_of tick (is_used room.own.member room.own.id s.used) live) → result ≡ Some rule
+          → Reports event before 1 (record { member = member; kind = refusal CancelRequest room.shown room.orig.id live rule } ∷ []) after place
           → IsWorked tick event s entered entries before s entered entries after place
       unfolding outcome_of on_cancel ids_after
       cancel_refused live rule after place named e some told =
@@ -62,7 +62,7 @@ module _ (tick : ℕ) (event : Event) (member : ℕ) (id orig : List ℕ) (room 
             ids = rw (command, live_e, rule_e) refl;
           }
 
-      pub cancel_none : live_named room.orig.member room.orig.id.items s.orders (resting s) ≡ None → result ≡ verdict event.command (known_of tick (is_used room.own.member room.own.id.items s.used) None) → result ≡ None
+      pub cancel_none : live_named room.orig.member room.orig.id s.orders (resting s) ≡ None → result ≡ verdict event.command (known_of tick (is_used room.own.member room.own.id s.used) None) → result ≡ None
           → IsWorked tick event s entered entries before s entered entries before 1
       unfolding outcome_of on_cancel ids_after
       cancel_none named e none =
@@ -77,15 +77,15 @@ module _ (tick : ℕ) (event : Event) (member : ℕ) (id orig : List ℕ) (room 
           }
 
       pub cancel_done : (live : Live) (number : ℕ) (next : State) (entered_next : List (Option Row)) (entries_next : List UsedId) (after : List Report) (place : ℕ)
-          → live_named room.orig.member room.orig.id.items s.orders (resting s) ≡ Some live → result ≡ verdict event.command (known_of tick (is_used room.own.member room.own.id.items s.used) (Some live)) → result ≡ None → live.number ≡ number
-          → (cancel member room.shown room.orig.id.items live s).state ≡ next → Reports event before 1 (cancel member room.shown room.orig.id.items live s).notices after place
+          → live_named room.orig.member room.orig.id s.orders (resting s) ≡ Some live → result ≡ verdict event.command (known_of tick (is_used room.own.member room.own.id s.used) (Some live)) → result ≡ None → live.number ≡ number
+          → (cancel member room.shown room.orig.id live s).state ≡ next → Reports event before 1 (cancel member room.shown room.orig.id live s).notices after place
           → entered_next ≡ slice_set entered number None → entries_next ≡ with_id member room.shown number entries
           → IsWorked tick event s entered entries before next entered_next entries_next after place
       unfolding outcome_of on_cancel ids_after
       cancel_done live number next entered_next entries_next after place named e none number_is state told rows ids =
           let live_e = live_is (Some live) named in
           let rule_e : verdict (Cancel member id orig) (known_of tick (is_used member id s.used) (Some live)) ≡ None = rule_is (Cancel member id orig) (Some live) result command e ∙ none in
-          let outcome_is : outcome_of tick event.number event.command s ≡ cancel member room.shown room.orig.id.items live s = rw (command, live_e, rule_e, own.shown, names.orig) refl in
+          let outcome_is : outcome_of tick event.number event.command s ≡ cancel member room.shown room.orig.id live s = rw (command, live_e, rule_e, own.shown, names.orig) refl in
           record {
             state = ap (λ (o : Outcome). o.state) outcome_is ∙ state;
             reports = subst (λ (o : Outcome). Reports event before 1 o.notices after place) (sym outcome_is) told;
@@ -93,16 +93,16 @@ module _ (tick : ℕ) (event : Event) (member : ℕ) (id orig : List ℕ) (room 
             ids = rw (command, live_e, rule_e, number_is, ← own.shown) ids;
           }
 
-      pub cancel_is_fresh : (live : Option Live) → result ≡ verdict event.command (known_of tick (is_used room.own.member room.own.id.items s.used) live) → result ≡ None → is_used member room.own.id.items s.used ≡ false
+      pub cancel_is_fresh : (live : Option Live) → result ≡ verdict event.command (known_of tick (is_used room.own.member room.own.id s.used) live) → result ≡ None → is_used member room.own.id s.used ≡ false
       cancel_is_fresh live e none =
-          ap (λ (m : ℕ). is_used m room.own.id.items s.used) (sym own.owner)
+          ap (λ (m : ℕ). is_used m room.own.id s.used) (sym own.owner)
           ∙ (used_is ∙ cancel_fresh tick member id orig (is_used member id s.used) live (rule_is (Cancel member id orig) live result command e ∙ none))
 
     -- ---- replaces
 
     module _ (terms : Terms) (command : event.command ≡ Replace member id orig terms) where
-      pub replace_refused : (live : Option Live) (rule : Rule) (after : List Report) (place : ℕ) → live_named room.orig.member room.orig.id.items s.orders (resting s) ≡ live → result ≡ verdict event.command (known_of tick (is_used room.own.member room.own.id.items s.used) live) → result ≡ Some rule
-          → Reports event before 1 (record { member = member; kind = refusal ReplaceRequest room.shown room.orig.id.items live rule } ∷ []) after place
+      pub replace_refused : (live : Option Live) (rule : Rule) (after : List Report) (place : ℕ) → live_named room.orig.member room.orig.id s.orders (resting s) ≡ live → result ≡ verdict event.command (known_of tick (is_used room.own.member room.own.id s.used) live) → result ≡ Some rule
+          → Reports event before 1 (record { member = member; kind = refusal ReplaceRequest room.shown room.orig.id live rule } ∷ []) after place
           → IsWorked tick event s entered entries before s entered entries after place
       unfolding outcome_of on_replace ids_after
       replace_refused live rule after place named e some told =
@@ -116,7 +116,7 @@ module _ (tick : ℕ) (event : Event) (member : ℕ) (id orig : List ℕ) (room 
             ids = rw (command, live_e, rule_e) refl;
           }
 
-      pub replace_none : live_named room.orig.member room.orig.id.items s.orders (resting s) ≡ None → result ≡ verdict event.command (known_of tick (is_used room.own.member room.own.id.items s.used) None) → result ≡ None
+      pub replace_none : live_named room.orig.member room.orig.id s.orders (resting s) ≡ None → result ≡ verdict event.command (known_of tick (is_used room.own.member room.own.id s.used) None) → result ≡ None
           → IsWorked tick event s entered entries before s entered entries before 1
       unfolding outcome_of on_replace ids_after
       replace_none named e none =
@@ -131,15 +131,15 @@ module _ (tick : ℕ) (event : Event) (member : ℕ) (id orig : List ℕ) (room 
           }
 
       pub replace_done : (live : Live) (number : ℕ) (next : State) (entered_next : List (Option Row)) (entries_next : List UsedId) (after : List Report) (place : ℕ)
-          → live_named room.orig.member room.orig.id.items s.orders (resting s) ≡ Some live → result ≡ verdict event.command (known_of tick (is_used room.own.member room.own.id.items s.used) (Some live)) → result ≡ None → live.number ≡ number
-          → (replace tick event.number member room.own.id.items room.orig.id.items terms live s).state ≡ next → Reports event before 1 (replace tick event.number member room.own.id.items room.orig.id.items terms live s).notices after place
-          → entered_next ≡ entered_by_replace tick event.number member terms live entered → entries_next ≡ with_id member room.own.id.items number entries
+          → live_named room.orig.member room.orig.id s.orders (resting s) ≡ Some live → result ≡ verdict event.command (known_of tick (is_used room.own.member room.own.id s.used) (Some live)) → result ≡ None → live.number ≡ number
+          → (replace tick event.number member room.own.id room.orig.id terms live s).state ≡ next → Reports event before 1 (replace tick event.number member room.own.id room.orig.id terms live s).notices after place
+          → entered_next ≡ entered_by_replace tick event.number member terms live entered → entries_next ≡ with_id member room.own.id number entries
           → IsWorked tick event s entered entries before next entered_next entries_next after place
       unfolding outcome_of on_replace ids_after
       replace_done live number next entered_next entries_next after place named e none number_is state told rows ids =
           let live_e = live_is (Some live) named in
           let rule_e : verdict (Replace member id orig terms) (known_of tick (is_used member id s.used) (Some live)) ≡ None = rule_is (Replace member id orig terms) (Some live) result command e ∙ none in
-          let outcome_is : outcome_of tick event.number event.command s ≡ replace tick event.number member room.own.id.items room.orig.id.items terms live s = rw (command, live_e, rule_e, own.own, names.orig) refl in
+          let outcome_is : outcome_of tick event.number event.command s ≡ replace tick event.number member room.own.id room.orig.id terms live s = rw (command, live_e, rule_e, own.own, names.orig) refl in
           record {
             state = ap (λ (o : Outcome). o.state) outcome_is ∙ state;
             reports = subst (λ (o : Outcome). Reports event before 1 o.notices after place) (sym outcome_is) told;
@@ -147,14 +147,14 @@ module _ (tick : ℕ) (event : Event) (member : ℕ) (id orig : List ℕ) (room 
             ids = rw (command, live_e, rule_e, number_is, ← own.own) ids;
           }
 
-      pub replace_is_fresh : (live : Option Live) → result ≡ verdict event.command (known_of tick (is_used room.own.member room.own.id.items s.used) live) → result ≡ None → is_used member room.own.id.items s.used ≡ false
+      pub replace_is_fresh : (live : Option Live) → result ≡ verdict event.command (known_of tick (is_used room.own.member room.own.id s.used) live) → result ≡ None → is_used member room.own.id s.used ≡ false
       replace_is_fresh live e none =
-          ap (λ (m : ℕ). is_used m room.own.id.items s.used) (sym own.owner)
+          ap (λ (m : ℕ). is_used m room.own.id s.used) (sym own.owner)
           ∙ (used_is ∙ replace_fresh tick member id orig terms (is_used member id s.used) live (rule_is (Replace member id orig terms) live result command e ∙ none))
 
       -- the orders that it examines
-      pub replace_examined : (live : Live) → live_named room.orig.member room.orig.id.items s.orders (resting s) ≡ Some live → result ≡ verdict event.command (known_of tick (is_used room.own.member room.own.id.items s.used) (Some live)) → result ≡ None
-          → examined tick s event.number event.command ≡ examined_by_replace tick event.number member room.own.id.items room.orig.id.items terms live s
+      pub replace_examined : (live : Live) → live_named room.orig.member room.orig.id s.orders (resting s) ≡ Some live → result ≡ verdict event.command (known_of tick (is_used room.own.member room.own.id s.used) (Some live)) → result ≡ None
+          → examined tick s event.number event.command ≡ examined_by_replace tick event.number member room.own.id room.orig.id terms live s
       replace_examined live named e none =
           let live_e = live_is (Some live) named in
           let rule_e : verdict (Replace member id orig terms) (known_of tick (is_used member id s.used) (Some live)) ≡ None = rule_is (Replace member id orig terms) (Some live) result command e ∙ none in
@@ -168,16 +168,16 @@ pub replace_enters : (tick event member : ℕ) (id orig : List ℕ) (terms : Ter
 replace_enters tick event member id orig terms live s e = rw e refl
 
 -- a status request, by the copy of its id
-pub status_command : (command : Command) (room : Room) (member : ℕ) (id : List ℕ) (side : ℕ) → IsRoomFor command room → command ≡ Status member id side → command ≡ Status room.orig.member room.orig.id.items side
+pub status_command : (command : Command) (room : Room) (member : ℕ) (id : List ℕ) (side : ℕ) → IsRoomFor command room → command ≡ Status member id side → command ≡ Status room.orig.member room.orig.id side
 status_command command room member id side holds is =
     let copies : CopiesOrig member id room = subst (λ (x : Command). IsRoomFor x room) is holds in
     rw (copies.owner, copies.orig) is
 
-pub status_done : (tick : ℕ) (event : Event) (side : ℕ) (room : Room) (s : State) (entered : List (Option Row)) (entries : List UsedId) (before after : List Report) (place : ℕ) → event.command ≡ Status room.orig.member room.orig.id.items side
-    → Reports event before 1 (on_status room.orig.member room.orig.id.items side s).notices after place → IsWorked tick event s entered entries before s entered entries after place
+pub status_done : (tick : ℕ) (event : Event) (side : ℕ) (room : Room) (s : State) (entered : List (Option Row)) (entries : List UsedId) (before after : List Report) (place : ℕ) → event.command ≡ Status room.orig.member room.orig.id side
+    → Reports event before 1 (on_status room.orig.member room.orig.id side s).notices after place → IsWorked tick event s entered entries before s entered entries after place
 unfolding outcome_of on_status ids_after
 status_done tick event side room s entered entries before after place command told =
-    let outcome_is : outcome_of tick event.number event.command s ≡ on_status room.orig.member room.orig.id.items side s = rw command refl in
+    let outcome_is : outcome_of tick event.number event.command s ≡ on_status room.orig.member room.orig.id side s = rw command refl in
     record {
       state = ap (λ (o : Outcome). o.state) outcome_is;
       reports = subst (λ (o : Outcome). Reports event before 1 o.notices after place) (sym outcome_is) told;

@@ -1,7 +1,7 @@
 -- What a command that breaks no rule has.
 use Rattle.std.proofs.Common.{◌≡◌, ℕ, Bool, true, false, List, ◌∷◌, Option, None, refl}
 use Rattle.venue_words.specs.declared.command.Command.TheVariants.{New, Cancel, Replace}
-use Rattle.venue_words.specs.declared.command.Terms.{Terms}
+use Rattle.venue_words.specs.declared.terms.Terms.{Terms}
 use Rattle.venue_words.specs.declared.rule.Rule.{Rule}
 use Rattle.eager_meaning.specs.declared.order.Live.{Live}
 use Rattle.eager_meaning.specs.Orders.{known_of}

@@ -13,7 +13,7 @@ use Rattle.eager_meaning.specs.Orders.{is_used}
 
 -- an entry of the map as contracts see it
 abbrev pub entry_for : ClOrdId × ℕ → UsedId
-entry_for e = record { member = e.0.member; id = e.0.id.items; order = e.1 }
+entry_for e = record { member = e.0.member; id = e.0.id; order = e.1 }
 
 -- what is found, or not
 found : (b : Bool) (u : ℕ) (r : Option ℕ) (any : Bool) → is_some r ≡ any → is_some (cond b (Some u) r) ≡ (b || any)
@@ -21,19 +21,19 @@ found true u r any p = refl
 found false u r any p = p
 
 -- an id is in the map where it is used up
-pub held_is_used : (eq : ClOrdId → ClOrdId → Bool) → ((a b : ClOrdId) → eq a b ≡ ((b.member == a.member) && bytes_eq b.id.items a.id.items)) → (k : ClOrdId) (es : List (ClOrdId × ℕ))
-    → is_some (lookup (eq k) es) ≡ is_used k.member k.id.items (used_of (map entry_for es))
+pub held_is_used : (eq : ClOrdId → ClOrdId → Bool) → ((a b : ClOrdId) → eq a b ≡ ((b.member == a.member) && bytes_eq b.id a.id)) → (k : ClOrdId) (es : List (ClOrdId × ℕ))
+    → is_some (lookup (eq k) es) ≡ is_used k.member k.id (used_of (map entry_for es))
 unfolding is_used
 held_is_used eq same k [] = refl
 held_is_used eq same k (e ∷ es) = rw (same k e.0) (found _ e.1 _ _ (held_is_used eq same k es))
 
 -- whether two names are the same, as the map tests it
 abbrev pub same_id : ClOrdId → ClOrdId → Bool
-same_id a b = nat_eq a.member b.member && bytes_eq a.id.items b.id.items
+same_id a b = nat_eq a.member b.member && bytes_eq a.id b.id
 
 -- the test goes both ways
-pub same_id_swaps : (a b : ClOrdId) → same_id a b ≡ ((b.member == a.member) && bytes_eq b.id.items a.id.items)
-same_id_swaps a b = rw (nat_eq_equiv.symm a.member b.member, nat_list_eq_equiv.symm a.id.items b.id.items) refl
+pub same_id_swaps : (a b : ClOrdId) → same_id a b ≡ ((b.member == a.member) && bytes_eq b.id a.id)
+same_id_swaps a b = rw (nat_eq_equiv.symm a.member b.member, nat_list_eq_equiv.symm a.id b.id) refl
 
 -- an id that isn't used up is not in the map
 none_of : (r : Option ℕ) → is_some r ≡ false → r ≡ None
@@ -41,7 +41,7 @@ none_of None p = refl
 none_of (Some u) p = absurd (true≢false p)
 
 -- a new id goes last
-pub pushed_last : {S : Type 0} (m : IndexMap ClOrdId ℕ S) (k : ClOrdId) (u : ℕ) → is_used k.member k.id.items (used_of (map entry_for m.entries)) ≡ false → map entry_for (insert_entry same_id m.entries k u) ≡ map entry_for m.entries ++ entry_for (k, u) ∷ []
+pub pushed_last : {S : Type 0} (m : IndexMap ClOrdId ℕ S) (k : ClOrdId) (u : ℕ) → is_used k.member k.id (used_of (map entry_for m.entries)) ≡ false → map entry_for (insert_entry same_id m.entries k u) ≡ map entry_for m.entries ++ entry_for (k, u) ∷ []
 pushed_last m k u fresh =
     ap (map entry_for) (insert_entry-new same_id m k u (none_of _ (held_is_used same_id same_id_swaps k m.entries ∙ fresh))) ∙ map-append entry_for m.entries ((k, u) ∷ [])
 
@@ -50,6 +50,6 @@ found_order : (b : Bool) (u : ℕ) (r : Option ℕ) (e : UsedId) (any : Option U
 found_order true u r e any at p = ap Some at
 found_order false u r e any at p = p
 
-pub order_is : (k : ClOrdId) (es : List (ClOrdId × ℕ)) → lookup (same_id k) es ≡ option_map (λ (x : UsedId). x.order) (entry_of k.member k.id.items (map entry_for es))
+pub order_is : (k : ClOrdId) (es : List (ClOrdId × ℕ)) → lookup (same_id k) es ≡ option_map (λ (x : UsedId). x.order) (entry_of k.member k.id (map entry_for es))
 order_is k [] = refl
 order_is k (e ∷ es) = rw (same_id_swaps k e.0) (found_order _ e.1 _ (entry_for e) _ refl (order_is k es))

@@ -18,8 +18,8 @@ use Rattle.symbol_book.specs.Orders.{IsSmall}
 use Rattle.symbol_book.specs.Rows.{AreEntered}
 use Rattle.symbol_book.specs.State.{state_of}
 
--- a book as contracts see it: the number of its markets, its tick and its limit, its journal and its reports, and the key
--- for which it has room, where it has room
+-- a book as contracts see it: the number of its markets, its tick and its limit, its journal and its reports, the key
+-- for which it has room, where it has room, and the most bytes of an id that an order may have
 pub record BookView : Type 0 where
   pub markets : ℕ
   pub tick : ℕ
@@ -27,6 +27,7 @@ pub record BookView : Type 0 where
   pub journal : List Event
   pub reports : List Report
   pub ready : Option (Option Key)
+  pub longest : ℕ
 
 -- what a book keeps beside its state: the rows with which orders entered, and which orders the ids name
 pub record KeepsOrders

@@ -1,5 +1,5 @@
 -- The commands that a book takes, and the steps that they may take.
-use Rattle.std.specs.Prelude.{◌≡◌, ℕ, ◌+◌, ◌≤◌, Bool, true, ◌&&◌, nat_lt, Option, Some, None}
+use Rattle.std.specs.Prelude.{◌≡◌, ℕ, ◌+◌, ◌≤◌, Bool, true, ◌&&◌, nat_lt, length, Option, Some, None}
 use Rattle.venue_words.specs.declared.command.Command.{Command}
 use Rattle.venue_words.specs.declared.command.Command.TheVariants.{Quote, New, Cancel, Replace, Status}
 use Rattle.venue_words.specs.declared.row.Key.{Key}
@@ -25,6 +25,14 @@ key_for tick (New member id terms) = Some (key_of tick terms)
 key_for tick (Cancel member id orig) = None
 key_for tick (Replace member id orig terms) = Some (key_of tick terms)
 key_for tick (Status member id side) = None
+
+-- the bytes of the id that an order may get
+abbrev pub id_bytes : Command → ℕ
+id_bytes (Quote market bid offer) = 0
+id_bytes (New member id terms) = length id
+id_bytes (Cancel member id orig) = 0
+id_bytes (Replace member id orig terms) = length id
+id_bytes (Status member id side) = 0
 
 -- the sides are no wider than the groups of their rows, and one more where a key was given
 pub record IsNarrow (key : Option Key) (width groups : ℕ) : Type 0 where

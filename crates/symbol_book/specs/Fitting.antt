@@ -2,7 +2,7 @@
 use Rattle.std.specs.Prelude.{◌≡◌, ℕ, ◌<◌, ◌≤◌, List, [], ◌∷◌, ◌++◌, length, slice_set, Some, None}
 use Rattle.venue_words.specs.declared.command.Command.{Command}
 use Rattle.venue_words.specs.declared.command.Command.TheVariants.{Quote, New, Cancel, Replace, Status}
-use Rattle.venue_words.specs.declared.command.Terms.{Terms}
+use Rattle.venue_words.specs.declared.terms.Terms.{Terms}
 use Rattle.venue_words.specs.declared.price.Best.{Best}
 use Rattle.venue_words.specs.declared.row.Priced.{Priced}
 use Rattle.venue_words.specs.Best.{best_of}

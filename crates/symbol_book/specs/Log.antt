@@ -5,11 +5,10 @@ use Rattle.venue_words.specs.declared.report.Report.{Report}
 use Rattle.eager_meaning.specs.declared.notice.Notice.{Notice}
 use Rattle.eager_meaning.specs.Step.{reports_from}
 
--- the reports, for how many more there are places, and for how many of these a buffer
+-- the reports, and for how many more there are places
 pub record Log : Type 0 where
   pub list : List Report
   pub places : ℕ
-  pub buffers : ℕ
 
 -- the notices were reported from one place on up to another: whatever is reported next continues them
 pub record Reports (event : Event)

@@ -3,7 +3,7 @@ use Rattle.std.specs.Prelude.{◌≡◌, ℕ, List, [], ◌∷◌, ◌++◌}
 use Rattle.std.specs.List.{AllByRecursion}
 use Rattle.venue_words.specs.declared.command.Command.TheVariants.{New}
 use Rattle.venue_words.specs.declared.command.Event.{Event}
-use Rattle.venue_words.specs.declared.command.Terms.{Terms}
+use Rattle.venue_words.specs.declared.terms.Terms.{Terms}
 use Rattle.venue_words.specs.declared.report.Report.{Report}
 use Rattle.venue_words.specs.Best.{best_of}
 use Rattle.eager_meaning.specs.Step.{runs}

@@ -1,6 +1,5 @@
 -- What a book needs of its orders, so that sums fit and ids have room.
 use Rattle.std.specs.Prelude.{ℕ, ◌+◌, ◌*◌, ◌^◌, ◌<◌, ◌≤◌, List, [], ◌∷◌, length, slice_index_or}
-use Rattle.venue_words.specs.declared.limits.TheConstants.{MAX_ID_BYTES}
 use Rattle.eager_meaning.specs.declared.order.Order.{Order}
 use Rattle.eager_meaning.specs.declared.trade.Fill.{Fill}
 use Rattle.eager_meaning.specs.Orders.{changed_at}
@@ -10,9 +9,19 @@ use Rattle.eager_meaning.specs.Trades.{order_after, orders_after}
 abbrev pub most_shares : ℕ
 most_shares = 999999999
 
--- an order with a short id and no more traded than its quantity, at prices of 32 bits
+-- all orders, for how many more there is room, and how many copies of ids can be made, of how many bytes
+pub record OrderList : Type 0 where
+  pub items : List Order
+  pub room : ℕ
+  pub copies : ℕ
+  pub longest : ℕ
+
+-- an order whose id has at most so many bytes
+pub record HasIdWithin (most : ℕ) (order : Order) : Type 0 where
+  pub id : length order.id ≤ most
+
+-- an order with no more traded than its quantity, at prices of 32 bits
 pub record IsSmall (order : Order) : Type 0 where
-  pub short : length order.id ≤ MAX_ID_BYTES
   pub within : order.cum ≤ order.quantity
   pub few : order.quantity ≤ most_shares
   pub worth : order.notional ≤ 2 ^ 32 * order.cum

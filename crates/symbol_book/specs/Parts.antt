@@ -32,13 +32,13 @@ pub record Agree {T : Type 0} (buys sells : T → List Priced) (best : T → Bes
   pub few_orders : length parts.orders.items < 2 ^ 31
   pub few : resting_in buys sells parts < 2 ^ 30
 
--- there are places for what one event adds in a book of so many rows, and buffers for the ids that it tells
+-- there are places for what one event adds in a book of so many rows, and copies of the ids that it tells
 pub record HasRoom {T : Type 0} (rows : ℕ) (parts : Parts T) : Type 0 where
-  pub orders : vec_len parts.orders < vec_capacity parts.orders
+  pub orders : 0 < parts.orders.room
   pub entries : vec_len parts.entered < vec_capacity parts.entered
   pub ids : 0 < parts.ids.room
   pub places : 2 * rows + 4 ≤ parts.log.places
-  pub buffers : 2 * rows + 3 ≤ parts.log.buffers
+  pub copies : 2 * rows + 3 ≤ parts.orders.copies
 
 -- an event made these parts of those, with its reports up to this place
 abbrev pub AreWorked : {T : Type 0} → (T → List Priced) → (T → List Priced) → ℕ → Event → Parts T → Parts T → ℕ → Type 0

@@ -7,14 +7,14 @@ use Rattle.symbol_book.specs.declared.room.Room.{Room}
 -- copies of a command's own id: for the list of used ids, for the order and for the report
 pub record CopiesOwn (member : ℕ) (id : List ℕ) (room : Room) : Type 0 where
   pub owner : room.own.member ≡ member
-  pub own : room.own.id.items ≡ id
+  pub own : room.own.id ≡ id
   pub order : room.order ≡ id
   pub shown : room.shown ≡ id
 
 -- a copy of the id that a command names an order by
 pub record CopiesOrig (member : ℕ) (id : List ℕ) (room : Room) : Type 0 where
   pub owner : room.orig.member ≡ member
-  pub orig : room.orig.id.items ≡ id
+  pub orig : room.orig.id ≡ id
 
 -- the room has the copies that the command wants
 abbrev pub IsRoomFor : Command → Room → Type 0

@@ -1,7 +1,6 @@
 //! New orders.
 ghost use Rattle.std.specs.Prelude.{◌≡◌, ◌+◌, ◌*◌, ◌<◌, ◌≤◌, ◌++◌, ◌∷◌, [], Some, None, All, false, length};
 ghost use Rattle.venue_words.specs.Conditions.{IsTick};
-ghost use Rattle.venue_words.specs.declared.limits.TheConstants.{MAX_ID_BYTES};
 ghost use Rattle.venue_words.specs.declared.command.Command.TheVariants.{New};
 ghost use Rattle.venue_words.specs.declared.report.Kind.TheVariants.{Rejected};
 ghost use Rattle.eager_meaning.specs.Entering.{accepted_order, arrival_of_new, enter};
@@ -29,11 +28,11 @@ use eager_meaning::{
 };
 use match_core::Engine;
 use std::sync::ledger::Ledger;
-use venue_words::{Bytes, Event, Execution, Kind, Row, Rule, Side, Steps, Terms};
+use venue_words::{Event, Execution, Id, Kind, Row, Rule, Side, Steps, Terms};
 
 /// An accepted order, before it trades.
 #[tactic(auto, unfolding(eager_meaning::specs::Entering::accepted_order))]
-fn accepted_order(tick: u32, event: u32, member: u32, id: Bytes, terms: &Terms) -> Order
+fn accepted_order(tick: u32, event: u32, member: u32, id: Id, terms: &Terms) -> Order
     requires { IsTick tick }
     ensures order { result ≡ accepted_order tick event member id terms.now }
     ensures named { result.id ≡ id }
@@ -69,28 +68,28 @@ fn accept<E: Engine + Drop, L: Ledger>(
     steps: &mut Steps<L>,
 ) -> u32
     requires tick { IsTick tick }
-    requires copies { CopiesOwn room.own.member room.own.id.items room }
+    requires copies { CopiesOwn room.own.member room.own.id room }
     requires ready { E.ready parts.old.engine (Some (key_of tick terms.now)) }
     requires later { E.latest parts.old.engine < event.now.number }
     requires unbroken { (0 < quantity_of terms.now)
-        × (is_used room.own.member room.own.id.items (used_of parts.old.ids.entries) ≡ false) }
-    requires fits { (length room.own.id.items ≤ MAX_ID_BYTES)
-        × NewFits tick event.now.number room.own.member room.own.id.items terms.now (E.best parts.old.engine)
+        × (is_used room.own.member room.own.id (used_of parts.old.ids.entries) ≡ false) }
+    requires fits { (length room.own.id ≤ parts.old.orders.longest)
+        × NewFits tick event.now.number room.own.member room.own.id terms.now (E.best parts.old.engine)
         (E.buys parts.old.engine) (E.sells parts.old.engine) parts.old.orders.items }
     requires agree { Agree E.buys E.sells E.best parts.old }
     requires places { HasRoom (resting_in E.buys E.sells parts.old) parts.old }
-    ensures state { (enter (arrival_of_new tick event.now.number room.own.member room.own.id.items terms.now
+    ensures state { (enter (arrival_of_new tick event.now.number room.own.member room.own.id terms.now
         (state_in E.buys E.sells parts.old))).state ≡ state_in E.buys E.sells parts.new }
     ensures reports { Reports event.now parts.old.log.list 1 (enter (arrival_of_new tick event.now.number room.own.member
-        room.own.id.items terms.now (state_in E.buys E.sells parts.old))).notices parts.new.log.list result }
+        room.own.id terms.now (state_in E.buys E.sells parts.old))).notices parts.new.log.list result }
     ensures entered { parts.new.entered.items ≡ parts.old.entered.items ++ if_it_rests (is_immediate terms.now)
         (row_of tick event.now.number (length parts.old.orders.items) room.own.member 0 terms.now) ∷ [] }
     ensures ids { parts.new.ids.entries
-        ≡ with_id room.own.member room.own.id.items (length parts.old.orders.items) parts.old.ids.entries }
+        ≡ with_id room.own.member room.own.id (length parts.old.orders.items) parts.old.ids.entries }
     ensures markets { parts.new.markets ≡ parts.old.markets }
     ensures small { All IsSmall parts.new.orders.items }
     ensures most { steps.new ≤ steps.old + 2048 * (E.width parts.old.engine + 1) * (examined_by_arrival
-        (arrival_of_new tick event.now.number room.own.member room.own.id.items terms.now
+        (arrival_of_new tick event.now.number room.own.member room.own.id terms.now
         (state_in E.buys E.sells parts.old)) + 1) }
     ensures best { E.best parts.new.engine ≡ E.best parts.old.engine }
     ensures latest { E.latest parts.new.engine ≡ event.now.number }
@@ -101,7 +100,7 @@ fn accept<E: Engine + Drop, L: Ledger>(
         shown,
         orig: _,
     } = room;
-    let number = parts.orders.len() as u32;
+    let number = parts.orders.as_slice().len() as u32;
     let row = entering_row(tick, event.number, number, own.member, 0, terms);
     let order = accepted_order(tick, event.number, own.member, copy, terms);
     let price = price_now(&parts.engine, &row);
@@ -132,10 +131,10 @@ fn rule_of_new(
     terms: &Terms,
 ) -> Option<Rule>
     requires tick { IsTick tick }
-    requires command { event.now.command ≡ New own.now.member own.now.id.items terms.now }
-    ensures rule { result ≡ verdict (New own.now.member own.now.id.items terms.now) (known_of tick
-        (is_used own.now.member own.now.id.items (used_of ids.now.entries)) None) }
-    ensures fresh { result ≡ None → is_used own.now.member own.now.id.items (used_of ids.now.entries) ≡ false }
+    requires command { event.now.command ≡ New own.now.member own.now.id terms.now }
+    ensures rule { result ≡ verdict (New own.now.member own.now.id terms.now) (known_of tick
+        (is_used own.now.member own.now.id (used_of ids.now.entries)) None) }
+    ensures fresh { result ≡ None → is_used own.now.member own.now.id (used_of ids.now.entries) ≡ false }
     ensures shares { result ≡ None → 0 < quantity_of terms.now }
 {
     let known = Known {
@@ -149,14 +148,7 @@ fn rule_of_new(
 }
 
 /// A New is rejected.
-fn reject(
-    log: &mut ReportLog,
-    event: &Event,
-    member: u32,
-    id: Bytes,
-    terms: &Terms,
-    rule: Rule,
-) -> u32
+fn reject(log: &mut ReportLog, event: &Event, member: u32, id: Id, terms: &Terms, rule: Rule) -> u32
     requires places { 0 < log.old.places }
     ensures reports { Reports event.now log.old.list 1
         (record { member = member; kind = Rejected id terms.now.side terms.now.quantity rule } ∷ []) log.new.list
@@ -182,11 +174,12 @@ pub fn on_new<E: Engine + Drop, L: Ledger>(
     steps: &mut Steps<L>,
 ) -> u32
     requires tick { IsTick tick }
-    requires command { event.now.command ≡ New room.own.member room.own.id.items terms.now }
-    requires copies { CopiesOwn room.own.member room.own.id.items room }
+    requires command { event.now.command ≡ New room.own.member room.own.id terms.now }
+    requires copies { CopiesOwn room.own.member room.own.id room }
     requires ready { E.ready parts.old.engine (Some (key_of tick terms.now)) }
     requires later { E.latest parts.old.engine < event.now.number }
-    requires fits { CanWork tick event.now.number event.now.command (state_in E.buys E.sells parts.old) }
+    requires fits { (length room.own.id ≤ parts.old.orders.longest)
+        × CanWork tick event.now.number event.now.command (state_in E.buys E.sells parts.old) }
     requires agree { Agree E.buys E.sells E.best parts.old }
     requires places { HasRoom (resting_in E.buys E.sells parts.old) parts.old }
     ensures worked { AreWorked E.buys E.sells tick event.now parts.old parts.new result }

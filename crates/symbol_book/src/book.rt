@@ -3,8 +3,9 @@ use crate::hashing::HashSeed;
 use crate::ids::UsedIds;
 use crate::log::ReportLog;
 use crate::looking::resting_row;
+use crate::orders::Orders;
 use crate::parts::Parts;
-use crate::preparing::{key_for, make_room, room_for};
+use crate::preparing::{id_bytes, key_for, make_room, room_for};
 use crate::room::Room;
 use crate::taking::takes_command;
 use crate::working::work;
@@ -52,6 +53,7 @@ impl<E: Engine + Drop> Model for BookOver<E> {
       journal = b.journal.items;
       reports = b.parts.log.list;
       ready = b.ready;
+      longest = b.parts.orders.longest;
     } };
 
     ghost invariant = { λ b. IsKept b.tick b.limit b.parts.markets (E.buys b.parts.engine) (E.sells b.parts.engine)
@@ -78,7 +80,7 @@ impl<E: Engine + Drop> BookOver<E> {
     ghost use Rattle.market_laws.specs.Orders.{shares_told_of};
     ghost use Rattle.market_laws.specs.Sound.{IsSound};
     ghost use Rattle.market_laws.specs.Trading.{shares_traded};
-    ghost use Rattle.symbol_book.specs.Commands.{takes_command, key_for};
+    ghost use Rattle.symbol_book.specs.Commands.{id_bytes, takes_command, key_for};
     ghost use Rattle.symbol_book.specs.Market.{TradesWithinQuote, EachNewAnswered};
     ghost use Rattle.symbol_book.specs.Room.{IsRoomFor};
     ghost use Rattle.symbol_book.specs.Setting.{setting_of, book_setting, markets_in, tick_in, run_at, reports_at};
@@ -110,7 +112,7 @@ impl<E: Engine + Drop> BookOver<E> {
             parts: Parts {
                 markets,
                 engine,
-                orders: Vec::new(alloc),
+                orders: Orders::new(alloc),
                 entered: Vec::new(alloc),
                 ids: UsedIds::new(alloc, seed),
                 log: ReportLog::new(alloc),
@@ -246,6 +248,7 @@ impl<E: Engine + Drop> BookOver<E> {
         ensures journal { self.new.journal ≡ self.old.journal }
         ensures reports { self.new.reports ≡ self.old.reports }
         ensures ready { OnOk result (self.new.ready ≡ Some (key_for self.old.tick command.now)) }
+        ensures longest { OnOk result (id_bytes command.now ≤ self.new.longest) }
         ensures room { IfOk result (λ room. IsRoomFor command.now room) }
         ensures below { OnOk result (length self.old.journal < self.old.limit) }
         ensures full { IfErr result (IfFull (λ found. (found ≡ length self.old.journal) × (found ≡ self.old.limit))) }
@@ -260,7 +263,15 @@ impl<E: Engine + Drop> BookOver<E> {
         let key = key_for(self.tick, command);
         let rows = self.parts.engine.len();
         self.ready = None;
-        let made = make_room(self.alloc, key, rows, &mut self.parts, &mut self.journal);
+        let bytes = id_bytes(command);
+        let made = make_room(
+            self.alloc,
+            key,
+            bytes,
+            rows,
+            &mut self.parts,
+            &mut self.journal,
+        );
         if made.is_err() {
             return Err(FloorRefusal::NoMemory);
         }
@@ -274,6 +285,7 @@ impl<E: Engine + Drop> BookOver<E> {
         requires number { event.number ≡ length self.old.journal + 1 }
         requires below { length self.old.journal < self.old.limit }
         requires ready { self.old.ready ≡ Some (key_for self.old.tick event.command) }
+        requires longest { id_bytes event.command ≤ self.old.longest }
         requires room { IsRoomFor event.command room }
         ensures same { (self.new.markets ≡ self.old.markets) × (self.new.tick ≡ self.old.tick) × (self.new.limit
             ≡ self.old.limit) }

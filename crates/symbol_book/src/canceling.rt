@@ -19,7 +19,7 @@ use crate::room::Room;
 use crate::showing::view_closed;
 use match_core::Engine;
 use std::sync::ledger::Ledger;
-use venue_words::{Bytes, Event, Execution, Kind, RefusedRequest, Steps};
+use venue_words::{Event, Execution, Kind, RefusedRequest, Steps};
 
 /// A live order leaves. Its report has the id of the cancel.
 #[tactic(auto, unfolding(eager_meaning::specs::Changing::cancel))]
@@ -33,15 +33,15 @@ fn cancel<E: Engine + Drop, L: Ledger>(
     requires found { (live : Live)
         × IsFoundAs parts.old.orders.items (rows_in E.buys E.sells parts.old) live found }
     requires here { found.number < length parts.old.orders.items }
-    requires copies { CopiesOwn room.own.member room.own.id.items room }
-    requires fresh { is_used room.own.member room.own.id.items (used_of parts.old.ids.entries) ≡ false }
+    requires copies { CopiesOwn room.own.member room.own.id room }
+    requires fresh { is_used room.own.member room.own.id (used_of parts.old.ids.entries) ≡ false }
     requires agree { Agree E.buys E.sells E.best parts.old }
     requires places { HasRoom (resting_in E.buys E.sells parts.old) parts.old }
     ensures state { (live : Live) → IsFoundAs parts.old.orders.items (rows_in E.buys E.sells parts.old) live found
-        → (cancel room.own.member room.shown room.orig.id.items live (state_in E.buys E.sells parts.old)).state
+        → (cancel room.own.member room.shown room.orig.id live (state_in E.buys E.sells parts.old)).state
         ≡ state_in E.buys E.sells parts.new }
     ensures reports { (live : Live) → IsFoundAs parts.old.orders.items (rows_in E.buys E.sells parts.old) live found
-        → Reports event.now parts.old.log.list 1 (cancel room.own.member room.shown room.orig.id.items live
+        → Reports event.now parts.old.log.list 1 (cancel room.own.member room.shown room.orig.id live
         (state_in E.buys E.sells parts.old)).notices parts.new.log.list result }
     ensures entered { parts.new.entered.items ≡ slice_set parts.old.entered.items found.number None }
     ensures ids { parts.new.ids.entries ≡ with_id room.own.member room.shown found.number parts.old.ids.entries }
@@ -63,7 +63,7 @@ fn cancel<E: Engine + Drop, L: Ledger>(
     parts.entered[found.number as usize] = None;
     parts.ids.push(own, found.number);
     let execution = Execution::Canceled {
-        orig: Some(Bytes(orig.id)),
+        orig: Some(orig.id),
     };
     parts
         .log
@@ -79,8 +79,8 @@ pub fn on_cancel<E: Engine + Drop, L: Ledger>(
     steps: &mut Steps<L>,
 ) -> u32
     requires tick { IsTick tick }
-    requires command { event.now.command ≡ Cancel room.own.member room.own.id.items room.orig.id.items }
-    requires own { CopiesOwn room.own.member room.own.id.items room }
+    requires command { event.now.command ≡ Cancel room.own.member room.own.id room.orig.id }
+    requires own { CopiesOwn room.own.member room.own.id room }
     requires orig { room.orig.member ≡ room.own.member }
     requires agree { Agree E.buys E.sells E.best parts.old }
     requires places { HasRoom (resting_in E.buys E.sells parts.old) parts.old }

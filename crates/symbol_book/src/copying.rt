@@ -3,20 +3,14 @@ ghost use Rattle.std.specs.Prelude.{◌≡◌, ◌==◌, IfOk, filter};
 ghost use Rattle.venue_words.specs.Journals.{reports_of};
 
 use std::alloc::{AllocError, Global};
-use venue_words::{Bytes, Execution, Kind, Report, View};
-
-fn copy_of_bytes(alloc: Global, bytes: &Bytes) -> Result<Bytes, AllocError>
-    ensures { IfOk result (λ copy. copy ≡ bytes.now) }
-{
-    Bytes::copy_of(alloc, bytes.as_slice())
-}
+use venue_words::{Execution, Id, Kind, Report, View};
 
 fn copy_of_view(alloc: Global, view: &View) -> Result<View, AllocError>
     ensures { IfOk result (λ copy. copy ≡ view.now) }
 {
     Ok(View {
         first: view.first,
-        id: copy_of_bytes(alloc, &view.id)?,
+        id: view.id.copy(alloc)?,
         side: view.side,
         quantity: view.quantity,
         pegged: view.pegged,
@@ -27,12 +21,12 @@ fn copy_of_view(alloc: Global, view: &View) -> Result<View, AllocError>
     })
 }
 
-fn copy_of_orig(alloc: Global, orig: &Option<Bytes>) -> Result<Option<Bytes>, AllocError>
+fn copy_of_orig(alloc: Global, orig: &Option<Id>) -> Result<Option<Id>, AllocError>
     ensures { IfOk result (λ copy. copy ≡ orig.now) }
 {
     match orig {
         Some(orig) => {
-            let copy = copy_of_bytes(alloc, orig)?;
+            let copy = orig.copy(alloc)?;
             Ok(Some(copy))
         }
         None => Ok(None),
@@ -53,7 +47,7 @@ fn copy_of_execution(alloc: Global, execution: &Execution) -> Result<Execution, 
             Ok(Execution::Canceled { orig })
         }
         Execution::Replaced { orig } => {
-            let orig = copy_of_bytes(alloc, orig)?;
+            let orig = orig.copy(alloc)?;
             Ok(Execution::Replaced { orig })
         }
         Execution::Status => Ok(Execution::Status),
@@ -74,13 +68,13 @@ fn copy_of_kind(alloc: Global, kind: &Kind) -> Result<Kind, AllocError>
             quantity,
             rule,
         } => Ok(Kind::Rejected {
-            id: copy_of_bytes(alloc, id)?,
+            id: id.copy(alloc)?,
             side: *side,
             quantity: *quantity,
             rule: *rule,
         }),
         Kind::Unknown { id, side } => Ok(Kind::Unknown {
-            id: copy_of_bytes(alloc, id)?,
+            id: id.copy(alloc)?,
             side: *side,
         }),
         Kind::Refused {
@@ -90,8 +84,8 @@ fn copy_of_kind(alloc: Global, kind: &Kind) -> Result<Kind, AllocError>
             request,
             rule,
         } => Ok(Kind::Refused {
-            id: copy_of_bytes(alloc, id)?,
-            orig: copy_of_bytes(alloc, orig)?,
+            id: id.copy(alloc)?,
+            orig: orig.copy(alloc)?,
             order: *order,
             request: *request,
             rule: *rule,

@@ -12,10 +12,11 @@ ghost use Rattle.symbol_book.specs.Orders.{IsSmall, HaveLeft};
 ghost use Rattle.symbol_book.specs.Parts.{resting_in, state_in};
 
 use crate::log::ReportLog;
+use crate::orders::Orders;
 use crate::parts::Parts;
 use crate::showing::view_closed;
 use crate::trading::report_trades;
-use eager_meaning::{Order, row_of};
+use eager_meaning::row_of;
 use match_core::{Engine, price_at};
 use std::sync::ledger::Ledger;
 use venue_words::{Event, Execution, Kind, Row, Steps, Terms};
@@ -47,18 +48,19 @@ fn report_leftover(
     event: &Event,
     place: u32,
     number: u32,
-    orders: &[Order],
+    orders: &mut Orders,
 ) -> u32
-    requires here { number < length orders.now }
-    requires small { All IsSmall orders.now }
+    requires here { number < length orders.old.items }
+    requires small { All IsSmall orders.old.items }
     requires place { place + 1 < 2 ^ 32 }
     requires places { 0 < log.old.places }
-    requires buffers { 0 < log.old.buffers }
-    ensures reports { Reports event.now log.old.list place (leftover_notice number orders.now) log.new.list result }
+    requires copies { 0 < orders.old.copies }
+    ensures reports { Reports event.now log.old.list place (leftover_notice number orders.old.items) log.new.list result }
     ensures next { result ≡ place + 1 }
+    ensures items { orders.new.items ≡ orders.old.items }
 {
+    let id = orders.copy_id(number);
     let order = &orders[number as usize];
-    let id = log.copy(&order.id);
     let view = view_closed(order, id);
     log.push(
         event,
@@ -90,7 +92,7 @@ pub fn enter<E: Engine + Drop, L: Ledger>(
     requires small { All IsSmall parts.old.orders.items }
     requires few { resting_in E.buys E.sells parts.old < 2 ^ 30 }
     requires room { (2 * resting_in E.buys E.sells parts.old + 4 ≤ parts.old.log.places)
-        × (2 * resting_in E.buys E.sells parts.old + 3 ≤ parts.old.log.buffers) }
+        × (2 * resting_in E.buys E.sells parts.old + 3 ≤ parts.old.orders.copies) }
     ensures state { (enter (record {
       taker = priced_at (E.best parts.old.engine) row;
       immediate = immediate;
@@ -120,7 +122,7 @@ pub fn enter<E: Engine + Drop, L: Ledger>(
     let fills = parts.engine.fills();
     let place = report_trades(&mut parts.log, event, place, fills, &mut parts.orders);
     if immediate && left {
-        report_leftover(&mut parts.log, event, place, row.order, &parts.orders)
+        report_leftover(&mut parts.log, event, place, row.order, &mut parts.orders)
     } else {
         place
     }

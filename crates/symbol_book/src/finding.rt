@@ -23,14 +23,14 @@ pub struct Found {
 
 /// Whether an order is the member's, and has this id at present.
 fn is_named(id: &ClOrdId, order: &Order) -> bool
-    ensures { result ≡ is_named id.now.member id.now.id.items order.now }
+    ensures { result ≡ is_named id.now.member id.now.id order.now }
 {
     order.member == id.member && order.id.as_slice() == id.id.as_slice()
 }
 
 /// The number, where there is an order with it that has this id.
 fn number_here(orders: &[Order], id: &ClOrdId, number: u32) -> Option<u32>
-    ensures { result ≡ option_map (λ found. found.0) (named_at id.now.member id.now.id.items orders.now (Some number)) }
+    ensures { result ≡ option_map (λ found. found.0) (named_at id.now.member id.now.id orders.now (Some number)) }
 {
     let k = number as usize;
     if k < orders.len() {
@@ -48,8 +48,8 @@ fn number_here(orders: &[Order], id: &ClOrdId, number: u32) -> Option<u32>
 /// The number of the member's order that has this id at present, live or not.
 pub fn number_of(ids: &UsedIds, orders: &[Order], id: &ClOrdId) -> Option<u32>
     requires { NameOrders ids.now.entries orders.now }
-    ensures number { IsNumber id.now.member id.now.id.items orders.now
-        (order_named id.now.member id.now.id.items orders.now) result }
+    ensures number { IsNumber id.now.member id.now.id orders.now
+        (order_named id.now.member id.now.id orders.now) result }
     ensures here { IfSome result (λ number. number < length orders.now) }
 {
     match ids.order(id) {
@@ -83,7 +83,7 @@ fn find_live(
     requires count { length entered.now ≡ length orders.now }
     ensures here { IfSome result (λ found. found.number < length orders.now) }
     ensures live { (rows : List Priced) → AreEntered entered.now orders.now rows
-        → IsFound orders.now rows (live_named id.now.member id.now.id.items orders.now rows) result }
+        → IsFound orders.now rows (live_named id.now.member id.now.id orders.now rows) result }
 {
     match number_of(ids, orders, id) {
         Some(number) => match live_row(orders, entered, number) {
@@ -99,7 +99,7 @@ pub fn find_named<E: Engine + Drop>(parts: &Parts<E>, room: &Room) -> Option<Fou
     requires { Agree E.buys E.sells E.best parts.now }
     ensures here { IfSome result (λ found. found.number < length parts.now.orders.items) }
     ensures live { IsFound parts.now.orders.items (rows_in E.buys E.sells parts.now) (live_named room.now.orig.member
-        room.now.orig.id.items parts.now.orders.items (rows_in E.buys E.sells parts.now)) result }
+        room.now.orig.id parts.now.orders.items (rows_in E.buys E.sells parts.now)) result }
 {
     find_live(&parts.ids, &parts.orders, &parts.entered, &room.orig)
 }

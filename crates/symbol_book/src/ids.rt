@@ -6,12 +6,13 @@ use indexmap::IndexMap;
 use std::alloc::{AllocError, Global};
 use std::hash::{Hash, Hasher};
 use std::marker::Model;
+use venue_words::Id;
 
 /// A ClOrdID(11) and the member that it is of.
 #[derive(PartialEq, Eq, Debug, Drop)]
 pub struct ClOrdId {
     pub member: u32,
-    pub id: Vec<u8>,
+    pub id: Id,
 }
 
 /// The member's number, and the bytes of the id at once.
@@ -21,7 +22,7 @@ impl Hash for ClOrdId {
     ghost use Rattle.std.specs.Cmp.Rules.{hashing};
     ghost use Rattle.std.specs.Hash as fed;
 
-    ghost hash_input = { λ i. fed.u32 i.member ++ i.id.items ∷ [] };
+    ghost hash_input = { λ i. fed.u32 i.member ++ i.id ∷ [] };
 
     ghost respects_eq = { Prim.search (hashing, rules) };
 
@@ -45,7 +46,7 @@ impl Model for UsedIds {
     ghost Value = { IdList };
 
     ghost view = { λ n. record {
-      entries = map (λ e. record { member = e.0.member; id = e.0.id.items; order = e.1 }) n.index.entries;
+      entries = map (λ e. record { member = e.0.member; id = e.0.id; order = e.1 }) n.index.entries;
       room = spare n.index;
     } };
 }
@@ -74,29 +75,29 @@ impl UsedIds {
 
     /// Whether the id is used up.
     pub fn contains(&self, id: &ClOrdId) -> bool
-        ensures { result ≡ is_used id.now.member id.now.id.items (used_of self.now.entries) }
+        ensures { result ≡ is_used id.now.member id.now.id (used_of self.now.entries) }
     {
         self.index.contains_key(id)
     }
 
     /// The number of the order that the id was used for.
     pub fn order(&self, id: &ClOrdId) -> Option<u32>
-        ensures { result ≡ option_map (λ e. e.order) (entry_of id.now.member id.now.id.items self.now.entries) }
+        ensures { result ≡ option_map (λ e. e.order) (entry_of id.now.member id.now.id self.now.entries) }
     {
         self.index.get(id).copied()
     }
 
     /// An id is used up.
     pub fn push(&mut self, id: ClOrdId, order: u32)
-        requires fresh { is_used id.member id.id.items (used_of self.old.entries) ≡ false }
+        requires fresh { is_used id.member id.id (used_of self.old.entries) ≡ false }
         requires room { 0 < self.old.room }
         ensures entries { self.new.entries ≡ self.old.entries ++ record {
           member = id.member;
-          id = id.id.items;
+          id = id.id;
           order
               = order;
         } ∷ [] }
-        ensures used { used_of self.new.entries ≡ used_of self.old.entries ++ (id.member, id.id.items) ∷ [] }
+        ensures used { used_of self.new.entries ≡ used_of self.old.entries ++ (id.member, id.id) ∷ [] }
     {
         match self.index.insert(id, order) {
             Ok(_) => {}

@@ -14,6 +14,7 @@ mod id_buffers;
 pub mod ids;
 mod log;
 mod looking;
+mod orders;
 mod parts;
 mod preparing;
 mod quoting;

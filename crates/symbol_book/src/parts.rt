@@ -1,8 +1,8 @@
 //! What a book keeps beside its journal.
 use crate::ids::UsedIds;
 use crate::log::ReportLog;
+use crate::orders::Orders;
 use best_prices::Markets;
-use eager_meaning::Order;
 use match_core::Engine;
 use venue_words::Row;
 
@@ -11,7 +11,7 @@ use venue_words::Row;
 pub struct Parts<E: Engine + Drop> {
     pub markets: Markets,
     pub engine: E,
-    pub orders: Vec<Order>,
+    pub orders: Orders,
     /// For each order the row with which it entered last, or none where it was canceled or may not rest.
     pub entered: Vec<Option<Row>>,
     pub ids: UsedIds,

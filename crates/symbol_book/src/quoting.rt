@@ -31,7 +31,7 @@ fn requote<E: Engine + Drop, L: Ledger>(
     requires small { All IsSmall parts.old.orders.items }
     requires few { resting_in E.buys E.sells parts.old < 2 ^ 30 }
     requires room { (2 * resting_in E.buys E.sells parts.old ≤ parts.old.log.places)
-        × (2 * resting_in E.buys E.sells parts.old ≤ parts.old.log.buffers) }
+        × (2 * resting_in E.buys E.sells parts.old ≤ parts.old.orders.copies) }
     ensures state { (requote event.now.number (state_in E.buys E.sells parts.old)).state
         ≡ state_in E.buys E.sells parts.new }
     ensures reports { Reports event.now parts.old.log.list 1

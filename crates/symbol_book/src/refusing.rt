@@ -15,7 +15,7 @@ use crate::parts::Parts;
 use crate::room::Room;
 use eager_meaning::{Known, Order, verdict};
 use match_core::Engine;
-use venue_words::{Bytes, Event, Kind, NamedOrder, OrderStatus, RefusedRequest, Rule, Side};
+use venue_words::{Event, Kind, NamedOrder, OrderStatus, RefusedRequest, Rule, Side};
 
 /// What the rules ask of the book, for a request that names this live order, or none.
 #[tactic(auto, unfolding(eager_meaning::specs::Orders::known_of))]
@@ -57,7 +57,7 @@ pub fn rule_of_request<E: Engine + Drop>(
     requires tick { IsTick tick }
     requires here { IfSome live (λ found. found.number < length parts.now.orders.items) }
     ensures { (rows : List Priced) (is : Option Live) → IsFound parts.now.orders.items rows is live
-        → result ≡ verdict event.now.command (known_of tick (is_used room.now.own.member room.now.own.id.items
+        → result ≡ verdict event.now.command (known_of tick (is_used room.now.own.member room.now.own.id
         (used_of parts.now.ids.entries)) is) }
 {
     let used = parts.ids.contains(&room.own);
@@ -78,14 +78,14 @@ pub fn refuse<E: Engine + Drop>(
     requires places { 0 < parts.old.log.places }
     ensures reports { (rows : List Priced) (is : Option Live) → IsFound parts.old.orders.items rows is live
         → Reports event.now parts.old.log.list 1
-        (record { member = room.own.member; kind = refusal request room.shown room.orig.id.items is rule } ∷ [])
+        (record { member = room.own.member; kind = refusal request room.shown room.orig.id is rule } ∷ [])
         parts.new.log.list result }
     ensures rest { parts.new ≡ record parts.old { log = parts.new.log } }
 {
     let order = named_order(live, &parts.orders);
     let kind = Kind::Refused {
         id: room.shown,
-        orig: Bytes(room.orig.id),
+        orig: room.orig.id,
         order,
         request,
         rule,

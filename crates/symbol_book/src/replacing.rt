@@ -1,17 +1,14 @@
 //! Replaces.
 ghost use Rattle.std.specs.Prelude.{◌≡◌, ◌⊎◌, ◌+◌, ◌*◌, ◌<◌, ◌≤◌, List, Some, All, false};
-ghost use Rattle.std.specs.Prelude.{length, slice_get, slice_set, vec_len};
-ghost use Rattle.std.specs.Vec.{vec_capacity};
+ghost use Rattle.std.specs.Prelude.{length, slice_set};
 ghost use Rattle.venue_words.specs.Conditions.{IsTick};
-ghost use Rattle.venue_words.specs.declared.limits.TheConstants.{MAX_ID_BYTES};
 ghost use Rattle.venue_words.specs.declared.command.Command.TheVariants.{Replace};
 ghost use Rattle.venue_words.specs.declared.row.Priced.{Priced};
 ghost use Rattle.eager_meaning.specs.declared.order.Live.{Live};
-ghost use Rattle.eager_meaning.specs.declared.order.Order.{Order};
-ghost use Rattle.eager_meaning.specs.Changing.{arrival_of_replace, only_lowers, replace, replaced_order, resize};
+ghost use Rattle.eager_meaning.specs.Changing.{arrival_of_replace, only_lowers, replace, resize};
 ghost use Rattle.eager_meaning.specs.Entering.{enter};
 ghost use Rattle.eager_meaning.specs.Floor.{same_method};
-ghost use Rattle.eager_meaning.specs.Orders.{changed_at, is_used};
+ghost use Rattle.eager_meaning.specs.Orders.{is_used};
 ghost use Rattle.eager_meaning.specs.Terms.{is_immediate, key_of, quantity_of, row_of};
 ghost use Rattle.eager_meaning.specs.Work.{examined, examined_by_arrival};
 ghost use Rattle.market_laws.specs.Standing.{if_it_rests};
@@ -31,12 +28,10 @@ use crate::parts::Parts;
 use crate::refusing::{refuse, rule_of_request};
 use crate::room::Room;
 use crate::showing::view_at;
-use eager_meaning::{Order, is_immediate, is_pegged, limit_of, quantity_of, row_of};
+use eager_meaning::{Order, is_immediate, quantity_of, row_of};
 use match_core::Engine;
 use std::sync::ledger::Ledger;
-use venue_words::{
-    Bytes, Event, Execution, Kind, Method, RefusedRequest, Row, Steps, Terms, same_key,
-};
+use venue_words::{Event, Execution, Kind, Method, RefusedRequest, Row, Steps, Terms, same_key};
 
 /// The live order that a Replace names, and the copies of the request's ids.
 struct Named {
@@ -84,25 +79,6 @@ fn lowers(tick: u32, terms: &Terms, orders: &[Order], found: &Found) -> bool
     only_lowers(tick, terms, &found.row, order.quantity)
 }
 
-/// An order gets the terms and the id of a replace; what it traded is kept.
-fn set_terms(tick: u32, orders: &mut Vec<Order>, number: u32, id: Bytes, terms: &Terms)
-    requires tick { IsTick tick }
-    requires here { number < length orders.old.items }
-    requires small { All IsSmall orders.old.items }
-    requires short { length id ≤ MAX_ID_BYTES }
-    requires more { (order : Order) → slice_get orders.old.items number ≡ Some order
-        → order.cum < quantity_of terms.now }
-    ensures items { orders.new.items ≡ changed_at (replaced_order tick id terms.now) number orders.old.items }
-    ensures small { All IsSmall orders.new.items }
-    ensures room { (vec_len orders.new ≡ vec_len orders.old) × (vec_capacity orders.new ≡ vec_capacity orders.old) }
-{
-    let order = &mut orders[number as usize];
-    order.id = id;
-    order.quantity = quantity_of(terms);
-    order.pegged = is_pegged(terms);
-    order.limit = limit_of(tick, terms);
-}
-
 /// The quantity of a live order changes; its price, its time and its entry stay.
 #[tactic(auto, unfolding(eager_meaning::specs::Changing::resize))]
 fn resize<E: Engine + Drop, L: Ledger>(
@@ -118,21 +94,21 @@ fn resize<E: Engine + Drop, L: Ledger>(
         × IsFoundAs parts.old.orders.items (rows_in E.buys E.sells parts.old) live named.found
         × (live.order.cum < quantity_of terms.now) }
     requires here { named.found.number < length parts.old.orders.items }
-    requires copies { CopiesOwn named.room.own.member named.room.own.id.items named.room }
-    requires fresh { is_used named.room.own.member named.room.own.id.items (used_of parts.old.ids.entries) ≡ false }
-    requires short { length named.room.own.id.items ≤ MAX_ID_BYTES }
+    requires copies { CopiesOwn named.room.own.member named.room.own.id named.room }
+    requires fresh { is_used named.room.own.member named.room.own.id (used_of parts.old.ids.entries) ≡ false }
+    requires short { length named.room.own.id ≤ parts.old.orders.longest }
     requires agree { Agree E.buys E.sells E.best parts.old }
     requires places { HasRoom (resting_in E.buys E.sells parts.old) parts.old }
     ensures state { (live : Live)
         → IsFoundAs parts.old.orders.items (rows_in E.buys E.sells parts.old) live named.found
-        → (resize tick named.room.own.member named.room.own.id.items named.room.orig.id.items terms.now live
+        → (resize tick named.room.own.member named.room.own.id named.room.orig.id terms.now live
         (state_in E.buys E.sells parts.old)).state ≡ state_in E.buys E.sells parts.new }
     ensures reports { (live : Live)
         → IsFoundAs parts.old.orders.items (rows_in E.buys E.sells parts.old) live named.found
-        → Reports event.now parts.old.log.list 1 (resize tick named.room.own.member named.room.own.id.items
-        named.room.orig.id.items terms.now live (state_in E.buys E.sells parts.old)).notices parts.new.log.list result }
+        → Reports event.now parts.old.log.list 1 (resize tick named.room.own.member named.room.own.id
+        named.room.orig.id terms.now live (state_in E.buys E.sells parts.old)).notices parts.new.log.list result }
     ensures ids { parts.new.ids.entries
-        ≡ with_id named.room.own.member named.room.own.id.items named.found.number parts.old.ids.entries }
+        ≡ with_id named.room.own.member named.room.own.id named.found.number parts.old.ids.entries }
     ensures entered { parts.new.entered.items ≡ parts.old.entered.items }
     ensures markets { parts.new.markets ≡ parts.old.markets }
     ensures small { All IsSmall parts.new.orders.items }
@@ -149,15 +125,13 @@ fn resize<E: Engine + Drop, L: Ledger>(
     } = room;
     let member = own.member;
     let (price, time) = parts.engine.priced(&found.row, steps);
-    set_terms(tick, &mut parts.orders, found.number, copy, terms);
+    parts.orders.set_terms(tick, found.number, copy, terms);
     let order = &parts.orders[found.number as usize];
     let leaves = order.quantity - order.cum;
     let view = view_at(order, shown, price, time);
     parts.engine.lower(&found.row, leaves, steps);
     parts.ids.push(own, found.number);
-    let execution = Execution::Replaced {
-        orig: Bytes(orig.id),
-    };
+    let execution = Execution::Replaced { orig: orig.id };
     parts
         .log
         .push(event, 1, member, Kind::Order { view, execution })
@@ -177,25 +151,25 @@ fn reenter<E: Engine + Drop, L: Ledger>(
     requires found { (live : Live)
         × IsFoundAs parts.old.orders.items (rows_in E.buys E.sells parts.old) live named.found
         × (live.order.cum < quantity_of terms.now)
-        × ReplaceFits tick event.now.number named.room.own.member named.room.own.id.items terms.now live
+        × ReplaceFits tick event.now.number named.room.own.member named.room.own.id terms.now live
         (E.best parts.old.engine) (E.buys parts.old.engine) (E.sells parts.old.engine) parts.old.orders.items }
     requires here { named.found.number < length parts.old.orders.items }
-    requires copies { CopiesOwn named.room.own.member named.room.own.id.items named.room }
-    requires id { (is_used named.room.own.member named.room.own.id.items (used_of parts.old.ids.entries) ≡ false)
-        × (length named.room.own.id.items ≤ MAX_ID_BYTES) }
+    requires copies { CopiesOwn named.room.own.member named.room.own.id named.room }
+    requires id { (is_used named.room.own.member named.room.own.id (used_of parts.old.ids.entries) ≡ false)
+        × (length named.room.own.id ≤ parts.old.orders.longest) }
     requires engine { E.ready parts.old.engine (Some (key_of tick terms.now))
         × (E.latest parts.old.engine < event.now.number) }
     requires agree { Agree E.buys E.sells E.best parts.old }
     requires places { HasRoom (resting_in E.buys E.sells parts.old) parts.old }
     ensures state { (live : Live)
         → IsFoundAs parts.old.orders.items (rows_in E.buys E.sells parts.old) live named.found
-        → (enter (arrival_of_replace tick event.now.number named.room.own.member named.room.own.id.items
-        named.room.orig.id.items terms.now live (state_in E.buys E.sells parts.old))).state
+        → (enter (arrival_of_replace tick event.now.number named.room.own.member named.room.own.id
+        named.room.orig.id terms.now live (state_in E.buys E.sells parts.old))).state
         ≡ state_in E.buys E.sells parts.new }
     ensures reports { (live : Live)
         → IsFoundAs parts.old.orders.items (rows_in E.buys E.sells parts.old) live named.found
         → Reports event.now parts.old.log.list 1 (enter (arrival_of_replace tick event.now.number named.room.own.member
-        named.room.own.id.items named.room.orig.id.items terms.now live (state_in E.buys E.sells parts.old))).notices
+        named.room.own.id named.room.orig.id terms.now live (state_in E.buys E.sells parts.old))).notices
         parts.new.log.list result }
     ensures entered { (live : Live)
         → IsFoundAs parts.old.orders.items (rows_in E.buys E.sells parts.old) live named.found
@@ -203,14 +177,14 @@ fn reenter<E: Engine + Drop, L: Ledger>(
         (is_immediate terms.now)
         (row_of tick event.now.number named.found.number named.room.own.member live.order.cum terms.now)) }
     ensures ids { parts.new.ids.entries
-        ≡ with_id named.room.own.member named.room.own.id.items named.found.number parts.old.ids.entries }
+        ≡ with_id named.room.own.member named.room.own.id named.found.number parts.old.ids.entries }
     ensures markets { parts.new.markets ≡ parts.old.markets }
     ensures small { All IsSmall parts.new.orders.items }
     ensures most { (live : Live)
         → IsFoundAs parts.old.orders.items (rows_in E.buys E.sells parts.old) live named.found → steps.new
         ≤ steps.old + 512 + 2048 * (E.width parts.old.engine + 1) * (examined_by_arrival
-        (arrival_of_replace tick event.now.number named.room.own.member named.room.own.id.items
-        named.room.orig.id.items terms.now live (state_in E.buys E.sells parts.old)) + 1) }
+        (arrival_of_replace tick event.now.number named.room.own.member named.room.own.id
+        named.room.orig.id terms.now live (state_in E.buys E.sells parts.old)) + 1) }
     ensures best { E.best parts.new.engine ≡ E.best parts.old.engine }
     ensures latest { E.latest parts.new.engine ≡ event.now.number }
 {
@@ -221,7 +195,7 @@ fn reenter<E: Engine + Drop, L: Ledger>(
         shown,
         orig,
     } = room;
-    set_terms(tick, &mut parts.orders, found.number, copy, terms);
+    parts.orders.set_terms(tick, found.number, copy, terms);
     let order = &parts.orders[found.number as usize];
     let row = entering_row(
         tick,
@@ -236,9 +210,7 @@ fn reenter<E: Engine + Drop, L: Ledger>(
     parts.engine.cut(&found.row, steps);
     parts.entered[found.number as usize] = kept_row(is_immediate(terms), row);
     parts.ids.push(own, found.number);
-    let execution = Execution::Replaced {
-        orig: Bytes(orig.id),
-    };
+    let execution = Execution::Replaced { orig: orig.id };
     enter(
         parts,
         event,
@@ -262,37 +234,37 @@ fn replace<E: Engine + Drop, L: Ledger>(
     requires found { (live : Live)
         × IsFoundAs parts.old.orders.items (rows_in E.buys E.sells parts.old) live named.found
         × (live.order.cum < quantity_of terms.now)
-        × ReplaceFits tick event.now.number named.room.own.member named.room.own.id.items terms.now live
+        × ReplaceFits tick event.now.number named.room.own.member named.room.own.id terms.now live
         (E.best parts.old.engine) (E.buys parts.old.engine) (E.sells parts.old.engine) parts.old.orders.items }
     requires here { named.found.number < length parts.old.orders.items }
-    requires copies { CopiesOwn named.room.own.member named.room.own.id.items named.room }
-    requires id { (is_used named.room.own.member named.room.own.id.items (used_of parts.old.ids.entries) ≡ false)
-        × (length named.room.own.id.items ≤ MAX_ID_BYTES) }
+    requires copies { CopiesOwn named.room.own.member named.room.own.id named.room }
+    requires id { (is_used named.room.own.member named.room.own.id (used_of parts.old.ids.entries) ≡ false)
+        × (length named.room.own.id ≤ parts.old.orders.longest) }
     requires engine { E.ready parts.old.engine (Some (key_of tick terms.now))
         × (E.latest parts.old.engine < event.now.number) }
     requires agree { Agree E.buys E.sells E.best parts.old }
     requires places { HasRoom (resting_in E.buys E.sells parts.old) parts.old }
     ensures state { (live : Live)
         → IsFoundAs parts.old.orders.items (rows_in E.buys E.sells parts.old) live named.found
-        → (replace tick event.now.number named.room.own.member named.room.own.id.items named.room.orig.id.items
+        → (replace tick event.now.number named.room.own.member named.room.own.id named.room.orig.id
         terms.now live (state_in E.buys E.sells parts.old)).state ≡ state_in E.buys E.sells parts.new }
     ensures reports { (live : Live)
         → IsFoundAs parts.old.orders.items (rows_in E.buys E.sells parts.old) live named.found
         → Reports event.now parts.old.log.list 1 (replace tick event.now.number named.room.own.member
-        named.room.own.id.items named.room.orig.id.items terms.now live (state_in E.buys E.sells parts.old)).notices
+        named.room.own.id named.room.orig.id terms.now live (state_in E.buys E.sells parts.old)).notices
         parts.new.log.list result }
     ensures entered { (live : Live)
         → IsFoundAs parts.old.orders.items (rows_in E.buys E.sells parts.old) live named.found
         → parts.new.entered.items ≡ entered_by_replace tick event.now.number named.room.own.member terms.now live
         parts.old.entered.items }
     ensures ids { parts.new.ids.entries
-        ≡ with_id named.room.own.member named.room.own.id.items named.found.number parts.old.ids.entries }
+        ≡ with_id named.room.own.member named.room.own.id named.found.number parts.old.ids.entries }
     ensures markets { parts.new.markets ≡ parts.old.markets }
     ensures small { All IsSmall parts.new.orders.items }
     ensures most { (live : Live)
         → IsFoundAs parts.old.orders.items (rows_in E.buys E.sells parts.old) live named.found → steps.new
         ≤ steps.old + 2048 + 2048 * (E.width parts.old.engine + 1) * (examined_by_replace tick event.now.number
-        named.room.own.member named.room.own.id.items named.room.orig.id.items terms.now live
+        named.room.own.member named.room.own.id named.room.orig.id terms.now live
         (state_in E.buys E.sells parts.old) + 1) }
     ensures best { E.best parts.new.engine ≡ E.best parts.old.engine }
     ensures latest { E.latest parts.new.engine ≤ event.now.number }
@@ -314,10 +286,11 @@ pub fn on_replace<E: Engine + Drop, L: Ledger>(
     steps: &mut Steps<L>,
 ) -> u32
     requires tick { IsTick tick }
-    requires command { event.now.command ≡ Replace room.own.member room.own.id.items room.orig.id.items terms.now }
-    requires own { CopiesOwn room.own.member room.own.id.items room }
+    requires command { event.now.command ≡ Replace room.own.member room.own.id room.orig.id terms.now }
+    requires own { CopiesOwn room.own.member room.own.id room }
     requires orig { room.orig.member ≡ room.own.member }
-    requires fits { CanWork tick event.now.number event.now.command (state_in E.buys E.sells parts.old) }
+    requires fits { (length room.own.id ≤ parts.old.orders.longest)
+        × CanWork tick event.now.number event.now.command (state_in E.buys E.sells parts.old) }
     requires engine { E.ready parts.old.engine (Some (key_of tick terms.now))
         × (E.latest parts.old.engine < event.now.number) }
     requires agree { Agree E.buys E.sells E.best parts.old }

@@ -3,11 +3,11 @@ ghost use Rattle.std.specs.Prelude.{◌≡◌};
 ghost use Rattle.eager_meaning.specs.Showing.{live_at, view_with, view_closed, view_traded};
 
 use eager_meaning::{Order, Party, live_at};
-use venue_words::{Bytes, LiveOrder, View};
+use venue_words::{Id, LiveOrder, View};
 
 /// An order with what it has while it is live, under an id.
 #[tactic(auto, unfolding(eager_meaning::specs::Showing::view_with))]
-fn view_with(order: &Order, id: Bytes, live: Option<LiveOrder>) -> View
+fn view_with(order: &Order, id: Id, live: Option<LiveOrder>) -> View
     ensures shown { result ≡ record (view_with order.now live) { id = id } }
     ensures own { id ≡ order.now.id → result ≡ view_with order.now live }
 {
@@ -25,7 +25,7 @@ fn view_with(order: &Order, id: Bytes, live: Option<LiveOrder>) -> View
 }
 
 /// An order that has left, under an id.
-pub fn view_closed(order: &Order, id: Bytes) -> View
+pub fn view_closed(order: &Order, id: Id) -> View
     ensures shown { result ≡ record (view_closed order.now) { id = id } }
     ensures own { id ≡ order.now.id → result ≡ view_closed order.now }
 {
@@ -33,7 +33,7 @@ pub fn view_closed(order: &Order, id: Bytes) -> View
 }
 
 /// An order at a price and a time.
-pub fn view_at(order: &Order, id: Bytes, price: Option<u32>, time: u32) -> View
+pub fn view_at(order: &Order, id: Id, price: Option<u32>, time: u32) -> View
     requires { id ≡ order.now.id }
     ensures { result ≡ view_with order.now (live_at order.now price time) }
 {
@@ -41,7 +41,7 @@ pub fn view_at(order: &Order, id: Bytes, price: Option<u32>, time: u32) -> View
 }
 
 /// An order after a trade of which it is a party.
-pub fn view_traded(order: &Order, id: Bytes, party: Party) -> View
+pub fn view_traded(order: &Order, id: Id, party: Party) -> View
     requires { id ≡ order.now.id }
     ensures { result ≡ view_traded order.now party }
 {

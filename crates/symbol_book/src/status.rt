@@ -14,7 +14,7 @@ use crate::showing::{view_at, view_closed};
 use eager_meaning::Order;
 use match_core::Engine;
 use std::sync::ledger::Ledger;
-use venue_words::{Bytes, Event, Execution, Kind, Row, Steps, View};
+use venue_words::{Event, Execution, Id, Kind, Row, Steps, View};
 
 /// An order as it is now, live or not.
 fn view_now<E: Engine, L: Ledger>(
@@ -22,7 +22,7 @@ fn view_now<E: Engine, L: Ledger>(
     orders: &[Order],
     entered: &[Option<Row>],
     number: u32,
-    id: Bytes,
+    id: Id,
     steps: &mut Steps<L>,
 ) -> View
     requires here { number < length orders.now }
@@ -53,7 +53,7 @@ pub fn on_status<E: Engine + Drop, L: Ledger>(
 ) -> u32
     requires agree { Agree E.buys E.sells E.best parts.old }
     requires places { HasRoom (resting_in E.buys E.sells parts.old) parts.old }
-    ensures reports { Reports event.now parts.old.log.list 1 (on_status room.orig.member room.orig.id.items side
+    ensures reports { Reports event.now parts.old.log.list 1 (on_status room.orig.member room.orig.id side
         (state_in E.buys E.sells parts.old)).notices parts.new.log.list result }
     ensures rest { parts.new ≡ record parts.old { log = parts.new.log } }
     ensures most { steps.new ≤ steps.old + 512 }
@@ -66,13 +66,13 @@ pub fn on_status<E: Engine + Drop, L: Ledger>(
                 &parts.orders,
                 &parts.entered,
                 number,
-                Bytes(room.orig.id),
+                room.orig.id,
                 steps,
             ),
             execution: Execution::Status,
         },
         None => Kind::Unknown {
-            id: Bytes(room.orig.id),
+            id: room.orig.id,
             side,
         },
     };

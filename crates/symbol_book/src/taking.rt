@@ -4,7 +4,7 @@ ghost use Rattle.venue_words.specs.Conditions.{fits_id, fits_quote};
 ghost use Rattle.symbol_book.specs.Commands.{takes_command};
 
 use venue_words::limits::{MAX_CENTS, MAX_ID_BYTES};
-use venue_words::{Bytes, Command};
+use venue_words::{Command, Id};
 
 fn fits_quote(price: Option<u32>) -> bool
     ensures { result ≡ fits_quote price }
@@ -15,7 +15,7 @@ fn fits_quote(price: Option<u32>) -> bool
     }
 }
 
-fn fits_id(id: &Bytes) -> bool
+fn fits_id(id: &Id) -> bool
     ensures { result ≡ fits_id id.now }
 {
     id.as_slice().len() <= MAX_ID_BYTES

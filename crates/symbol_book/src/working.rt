@@ -3,7 +3,7 @@ ghost use Rattle.std.specs.Prelude.{◌≡◌, ◌+◌, ◌<◌, ◌≤◌, All,
 ghost use Rattle.venue_words.specs.Best.{best_of};
 ghost use Rattle.venue_words.specs.Conditions.{IsTick};
 ghost use Rattle.eager_meaning.specs.Work.{bound, key_count};
-ghost use Rattle.symbol_book.specs.Commands.{IsNarrow, key_for};
+ghost use Rattle.symbol_book.specs.Commands.{IsNarrow, id_bytes, key_for};
 ghost use Rattle.symbol_book.specs.Fitting.{CanWork};
 ghost use Rattle.symbol_book.specs.Orders.{IsSmall};
 ghost use Rattle.symbol_book.specs.Parts.{Agree, AreWorked, HasRoom, resting_in, rows_in, state_in};
@@ -35,7 +35,8 @@ pub fn work<E: Engine + Drop, L: Ledger>(
     requires narrow { IsNarrow (key_for tick event.now.command) (E.width parts.old.engine)
         (key_count (rows_in E.buys E.sells parts.old)) }
     requires later { E.latest parts.old.engine < event.now.number }
-    requires fits { CanWork tick event.now.number event.now.command (state_in E.buys E.sells parts.old) }
+    requires fits { (id_bytes event.now.command ≤ parts.old.orders.longest)
+        × CanWork tick event.now.number event.now.command (state_in E.buys E.sells parts.old) }
     requires agree { Agree E.buys E.sells E.best parts.old }
     requires places { HasRoom (resting_in E.buys E.sells parts.old) parts.old }
     ensures worked { AreWorked E.buys E.sells tick event.now parts.old parts.new result }
@@ -54,9 +55,9 @@ pub fn work<E: Engine + Drop, L: Ledger>(
             };
             on_quote(parts, event, *market, quote, steps)
         }
-        Command::New { terms, .. } => on_new(tick, parts, event, terms.get(), room, steps),
+        Command::New { terms, .. } => on_new(tick, parts, event, &terms.get(), room, steps),
         Command::Cancel { .. } => on_cancel(tick, parts, event, room, steps),
-        Command::Replace { terms, .. } => on_replace(tick, parts, event, terms.get(), room, steps),
+        Command::Replace { terms, .. } => on_replace(tick, parts, event, &terms.get(), room, steps),
         Command::Status { side, .. } => on_status(parts, event, *side, room, steps),
     }
 }

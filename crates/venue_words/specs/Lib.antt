@@ -6,12 +6,14 @@ pub mod FirstRow
 pub mod FirstRowLaws
 pub mod Floors
 pub mod FloorLaws
+pub mod Ids
 pub mod Journals
 pub mod Key
 pub mod KeyLaws
 pub mod Limits
 pub mod ListLaws
 pub mod Moves
+pub mod OrderTerms
 pub mod Peg
 pub mod Price
 pub mod Priority

@@ -7,6 +7,7 @@ pub mod command;
 pub mod config;
 pub mod floor;
 pub mod held;
+pub mod id;
 pub mod items;
 pub mod limits;
 pub mod price;
@@ -15,12 +16,14 @@ pub mod report;
 pub mod row;
 pub mod rule;
 pub mod steps;
+pub mod terms;
 
 pub use bytes::Bytes;
-pub use command::{BoxedTerms, Command, Event, Terms};
+pub use command::{Command, Event};
 pub use config::Config;
 pub use floor::Floor;
 pub use held::Held;
+pub use id::{Id, SHORT_ID_BYTES};
 pub use items::Items;
 pub use price::{Best, PRICE_END, Side, price_of, value};
 pub use refusal::{FloorRefusal, NoMemory};
@@ -30,3 +33,4 @@ pub use report::{
 pub use row::{Key, Method, Priced, Reference, Rounding, Row, same_key};
 pub use rule::{RULES, Rule};
 pub use steps::Steps;
+pub use terms::{BoxedTerms, Terms};

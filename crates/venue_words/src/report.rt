@@ -2,7 +2,7 @@
 ghost use Rattle.std.specs.Prelude.{◌≡◌};
 ghost use Rattle.venue_words.specs.Reports.{live_status, status_of};
 
-use crate::bytes::Bytes;
+use crate::id::Id;
 use crate::items::Items;
 use crate::price::Side;
 use crate::rule::Rule;
@@ -50,7 +50,7 @@ pub struct View {
     /// The number of the event of its New, from which OrderID(37) is made.
     pub first: u32,
     /// ClOrdID(11).
-    pub id: Bytes,
+    pub id: Id,
     pub side: Side,
     /// OrderQty(38) in shares.
     pub quantity: u32,
@@ -88,9 +88,9 @@ pub enum Execution {
     Traded { quantity: u32, price: u32 },
     /// The order left (150=4): by a cancel, which `orig` then answers, or because what was left of an
     /// immediate order may not rest.
-    Canceled { orig: Option<Bytes> },
+    Canceled { orig: Option<Id> },
     /// The order has new terms and a new ClOrdID (150=5); `orig` is the one that it had.
-    Replaced { orig: Bytes },
+    Replaced { orig: Id },
     /// The order as it is (150=I).
     Status,
 }
@@ -123,21 +123,21 @@ pub enum Kind {
     },
     /// A New broke a rule (150=8). Side, quantity and id are those received.
     Rejected {
-        id: Bytes,
+        id: Id,
         side: u8,
         quantity: i128,
         rule: Rule,
     },
     /// A status request that names no order (150=I). The side is the byte received.
     Unknown {
-        id: Bytes,
+        id: Id,
         side: u8,
     },
     /// OrderCancelReject (35=9): a Cancel or a Replace broke a rule. `order` is the live order that `orig`
     /// names, if any.
     Refused {
-        id: Bytes,
-        orig: Bytes,
+        id: Id,
+        orig: Id,
         order: Option<NamedOrder>,
         request: RefusedRequest,
         rule: Rule,

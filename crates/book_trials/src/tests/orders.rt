@@ -1,6 +1,6 @@
 //! Orders at the midpoint, and events.
 use std::alloc::{AllocError, Global};
-use venue_words::{BoxedTerms, Bytes, Command, Event, Terms};
+use venue_words::{BoxedTerms, Command, Event, Id, Terms};
 
 /// One share as an amount.
 pub const SHARE: i128 = 100_000_000;
@@ -37,7 +37,7 @@ pub fn order(alloc: Global, member: u32, number: u32, terms: Terms) -> Result<Co
     let text = format!(in alloc; "order-{number:06}")?;
     Ok(Command::New {
         member,
-        id: Bytes::copy_of(alloc, text.as_bytes())?,
+        id: Id::copy_of(alloc, text.as_bytes())?,
         terms: BoxedTerms::new(alloc, terms)?,
     })
 }

@@ -3,7 +3,7 @@ ghost use Rattle.std.specs.Prelude.{◌<◌};
 
 use super::orders::SHARE;
 use std::alloc::{AllocError, Global};
-use venue_words::{BoxedTerms, Bytes, Command, Event, Terms};
+use venue_words::{BoxedTerms, Command, Event, Id, Terms};
 
 /// One unit of price.
 const UNIT: i128 = 500_000;
@@ -149,9 +149,9 @@ impl Random {
 }
 
 /// A short id.
-fn id_of(alloc: Global, number: u32) -> Result<Bytes, AllocError> {
+fn id_of(alloc: Global, number: u32) -> Result<Id, AllocError> {
     let text = format!(in alloc; "i{number}")?;
-    Bytes::copy_of(alloc, text.as_bytes())
+    Id::copy_of(alloc, text.as_bytes())
 }
 
 /// A request whose own id has this number, mostly, and whose other one is that of an earlier order.

@@ -20,7 +20,7 @@ use std::thread::{Threads, map_vec};
 use symbol_book::{Book, HashSeed};
 use venue_core::{Seated, Seats, Venue, make};
 use venue_words::{
-    BoxedTerms, Bytes, Command, Config, Event, Floor, Held, NoMemory, Report, Steps, Terms,
+    BoxedTerms, Command, Config, Event, Floor, Held, Id, NoMemory, Report, Steps, Terms,
 };
 
 // A floor, and the feed whose commands go through it.
@@ -71,7 +71,7 @@ pub fn command(alloc: Global, feed: u32, number: u32) -> Result<Command, AllocEr
     ];
     Ok(Command::New {
         member: feed % 4,
-        id: Bytes::copy_of(alloc, &id)?,
+        id: Id::copy_of(alloc, &id)?,
         terms: BoxedTerms::new(alloc, terms(number))?,
     })
 }

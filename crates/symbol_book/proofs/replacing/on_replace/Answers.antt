@@ -22,11 +22,10 @@ replace-requires-clause-id g c =
     let orders : List Order = c.args.parts.now.orders.items in
     let rows : List Priced = rows_in g.E.Engine.buys g.E.Engine.sells c.args.parts.now in
     let s : State = state_in g.E.Engine.buys g.E.Engine.sells c.args.parts.now in
-    let live : Option Live = live_named c.args.room.orig.member c.args.room.orig.id.items orders rows in
-    let orig : CopiesOrig c.args.room.own.member c.args.room.orig.id.items c.args.room = record { owner = c.requires.orig; orig = refl } in
-    let fits = subst (λ (x : Command). CanWork c.args.tick c.args.event.now.number x s) c.requires.command c.requires.fits in (
-      replace_is_fresh c.args.tick c.args.event.now c.args.room.own.member c.args.room.own.id.items c.args.room.orig.id.items c.args.room s c.requires.own orig c.args.parts.now.entered.items c.args.parts.now.ids.entries c.args.parts.now.log.list _ c.args.terms.now c.requires.command live (c.rule_of_request.ensures rows live c.find_named-live.ensures.live) c.in-None.is,
-      fits.0,
+    let live : Option Live = live_named c.args.room.orig.member c.args.room.orig.id orders rows in
+    let orig : CopiesOrig c.args.room.own.member c.args.room.orig.id c.args.room = record { owner = c.requires.orig; orig = refl } in (
+      replace_is_fresh c.args.tick c.args.event.now c.args.room.own.member c.args.room.own.id c.args.room.orig.id c.args.room s c.requires.own orig c.args.parts.now.entered.items c.args.parts.now.ids.entries c.args.parts.now.log.list _ c.args.terms.now c.requires.command live (c.rule_of_request.ensures rows live c.find_named-live.ensures.live) c.in-None.is,
+      c.requires.fits.0,
     )
 
 pub returns-in-Some-clause-worked : goal.returns-in-Some-clause-worked
@@ -34,50 +33,50 @@ returns-in-Some-clause-worked g c =
     let orders : List Order = c.args.parts.now.orders.items in
     let rows : List Priced = rows_in g.E.Engine.buys g.E.Engine.sells c.args.parts.now in
     let s : State = state_in g.E.Engine.buys g.E.Engine.sells c.args.parts.now in
-    let live : Option Live = live_named c.args.room.orig.member c.args.room.orig.id.items orders rows in
-    let orig : CopiesOrig c.args.room.own.member c.args.room.orig.id.items c.args.room = record { owner = c.requires.orig; orig = refl } in
+    let live : Option Live = live_named c.args.room.orig.member c.args.room.orig.id orders rows in
+    let orig : CopiesOrig c.args.room.own.member c.args.room.orig.id c.args.room = record { owner = c.requires.orig; orig = refl } in
     subst (λ (after : Parts _). AreWorked g.E.Engine.buys g.E.Engine.sells c.args.tick c.args.event.now c.args.parts.now after c.refuse.result) (sym c.refuse.ensures.rest)
-    (replace_refused c.args.tick c.args.event.now c.args.room.own.member c.args.room.own.id.items c.args.room.orig.id.items c.args.room s c.requires.own orig c.args.parts.now.entered.items c.args.parts.now.ids.entries c.args.parts.now.log.list _ c.args.terms.now c.requires.command live c.in-Some.rule _ _ refl (c.rule_of_request.ensures rows live c.find_named-live.ensures.live) c.in-Some.is (c.refuse.ensures.reports rows live c.find_named-live.ensures.live))
+    (replace_refused c.args.tick c.args.event.now c.args.room.own.member c.args.room.own.id c.args.room.orig.id c.args.room s c.requires.own orig c.args.parts.now.entered.items c.args.parts.now.ids.entries c.args.parts.now.log.list _ c.args.terms.now c.requires.command live c.in-Some.rule _ _ refl (c.rule_of_request.ensures rows live c.find_named-live.ensures.live) c.in-Some.is (c.refuse.ensures.reports rows live c.find_named-live.ensures.live))
 
 pub returns-in-None-live-clause-worked : goal.returns-in-None-live-clause-worked
 returns-in-None-live-clause-worked g c =
     let orders : List Order = c.args.parts.now.orders.items in
     let rows : List Priced = rows_in g.E.Engine.buys g.E.Engine.sells c.args.parts.now in
     let s : State = state_in g.E.Engine.buys g.E.Engine.sells c.args.parts.now in
-    let live : Option Live = live_named c.args.room.orig.member c.args.room.orig.id.items orders rows in
-    let orig : CopiesOrig c.args.room.own.member c.args.room.orig.id.items c.args.room = record { owner = c.requires.orig; orig = refl } in
+    let live : Option Live = live_named c.args.room.orig.member c.args.room.orig.id orders rows in
+    let orig : CopiesOrig c.args.room.own.member c.args.room.orig.id c.args.room = record { owner = c.requires.orig; orig = refl } in
     let none : live ≡ None = subst (IsFound orders rows live) c.in-None-live.is c.find_named-live.ensures.live in
     let none_found : IsFound orders rows None c.find_named-live.result = subst (λ (o : Option Live). IsFound orders rows o c.find_named-live.result) none c.find_named-live.ensures.live in
-    replace_none c.args.tick c.args.event.now c.args.room.own.member c.args.room.own.id.items c.args.room.orig.id.items c.args.room s c.requires.own orig c.args.parts.now.entered.items c.args.parts.now.ids.entries c.args.parts.now.log.list _ c.args.terms.now c.requires.command none (c.rule_of_request.ensures rows None none_found) c.in-None.is
+    replace_none c.args.tick c.args.event.now c.args.room.own.member c.args.room.own.id c.args.room.orig.id c.args.room s c.requires.own orig c.args.parts.now.entered.items c.args.parts.now.ids.entries c.args.parts.now.log.list _ c.args.terms.now c.requires.command none (c.rule_of_request.ensures rows None none_found) c.in-None.is
 
 pub returns-in-Some-live-clause-worked : goal.returns-in-Some-live-clause-worked
 returns-in-Some-live-clause-worked g c =
     let orders : List Order = c.args.parts.now.orders.items in
     let rows : List Priced = rows_in g.E.Engine.buys g.E.Engine.sells c.args.parts.now in
     let s : State = state_in g.E.Engine.buys g.E.Engine.sells c.args.parts.now in
-    let live : Option Live = live_named c.args.room.orig.member c.args.room.orig.id.items orders rows in
-    let orig : CopiesOrig c.args.room.own.member c.args.room.orig.id.items c.args.room = record { owner = c.requires.orig; orig = refl } in
+    let live : Option Live = live_named c.args.room.orig.member c.args.room.orig.id orders rows in
+    let orig : CopiesOrig c.args.room.own.member c.args.room.orig.id c.args.room = record { owner = c.requires.orig; orig = refl } in
     let r : IsFound orders rows live (Some c.in-Some-live.found) = subst (IsFound orders rows live) c.in-Some-live.is c.find_named-live.ensures.live in
     let one : IsFound orders rows (Some r.0) c.find_named-live.result = subst (λ (o : Option Live). IsFound orders rows o c.find_named-live.result) r.1 c.find_named-live.ensures.live in
-    replace_done c.args.tick c.args.event.now c.args.room.own.member c.args.room.own.id.items c.args.room.orig.id.items c.args.room s c.requires.own orig c.args.parts.now.entered.items c.args.parts.now.ids.entries c.args.parts.now.log.list _ c.args.terms.now c.requires.command r.0 c.in-Some-live.found.number _ _ _ _ _ r.1 (c.rule_of_request.ensures rows (Some r.0) one) c.in-None.is r.2.number (c.replace.ensures.state r.0 r.2) (c.replace.ensures.reports r.0 r.2) (c.replace.ensures.entered r.0 r.2) c.replace.ensures.ids
+    replace_done c.args.tick c.args.event.now c.args.room.own.member c.args.room.own.id c.args.room.orig.id c.args.room s c.requires.own orig c.args.parts.now.entered.items c.args.parts.now.ids.entries c.args.parts.now.log.list _ c.args.terms.now c.requires.command r.0 c.in-Some-live.found.number _ _ _ _ _ r.1 (c.rule_of_request.ensures rows (Some r.0) one) c.in-None.is r.2.number (c.replace.ensures.state r.0 r.2) (c.replace.ensures.reports r.0 r.2) (c.replace.ensures.entered r.0 r.2) c.replace.ensures.ids
 
 pub replace-requires-clause-found : goal.replace-requires-clause-found
 replace-requires-clause-found g c =
     let orders : List Order = c.args.parts.now.orders.items in
     let rows : List Priced = rows_in g.E.Engine.buys g.E.Engine.sells c.args.parts.now in
     let s : State = state_in g.E.Engine.buys g.E.Engine.sells c.args.parts.now in
-    let live : Option Live = live_named c.args.room.orig.member c.args.room.orig.id.items orders rows in
-    let orig : CopiesOrig c.args.room.own.member c.args.room.orig.id.items c.args.room = record { owner = c.requires.orig; orig = refl } in
+    let live : Option Live = live_named c.args.room.orig.member c.args.room.orig.id orders rows in
+    let orig : CopiesOrig c.args.room.own.member c.args.room.orig.id c.args.room = record { owner = c.requires.orig; orig = refl } in
     let r : IsFound orders rows live (Some c.in-Some-live.found) = subst (IsFound orders rows live) c.in-Some-live.is c.find_named-live.ensures.live in
     let one : IsFound orders rows (Some r.0) c.find_named-live.result = subst (λ (o : Option Live). IsFound orders rows o c.find_named-live.result) r.1 c.find_named-live.ensures.live in
-    let named = live_is c.args.tick c.args.event.now c.args.room.own.member c.args.room.own.id.items c.args.room.orig.id.items c.args.room s c.requires.own orig (Some r.0) r.1 in
-    let rule = rule_is c.args.tick c.args.event.now c.args.room.own.member c.args.room.own.id.items c.args.room.orig.id.items c.args.room s c.requires.own orig (Replace c.args.room.own.member c.args.room.own.id.items c.args.room.orig.id.items c.args.terms.now) (Some r.0) c.rule_of_request.result c.requires.command (c.rule_of_request.ensures rows (Some r.0) one) ∙ c.in-None.is in
-    let can = subst (λ (x : Command). CanWork c.args.tick c.args.event.now.number x s) c.requires.command c.requires.fits in
+    let named = live_is c.args.tick c.args.event.now c.args.room.own.member c.args.room.own.id c.args.room.orig.id c.args.room s c.requires.own orig (Some r.0) r.1 in
+    let rule = rule_is c.args.tick c.args.event.now c.args.room.own.member c.args.room.own.id c.args.room.orig.id c.args.room s c.requires.own orig (Replace c.args.room.own.member c.args.room.own.id c.args.room.orig.id c.args.terms.now) (Some r.0) c.rule_of_request.result c.requires.command (c.rule_of_request.ensures rows (Some r.0) one) ∙ c.in-None.is in
+    let can = subst (λ (x : Command). CanWork c.args.tick c.args.event.now.number x s) c.requires.command c.requires.fits.1 in
     let fits = can.1 r.0 named rule in (
       r.0,
       r.2,
       fits.0,
-      subst (λ (best : Best). ReplaceFits c.args.tick c.args.event.now.number c.args.room.own.member c.args.room.own.id.items c.args.terms.now r.0 best (g.E.Engine.buys c.args.parts.now.engine) (g.E.Engine.sells c.args.parts.now.engine) orders) (sym c.requires.agree.quote) fits.1,
+      subst (λ (best : Best). ReplaceFits c.args.tick c.args.event.now.number c.args.room.own.member c.args.room.own.id c.args.terms.now r.0 best (g.E.Engine.buys c.args.parts.now.engine) (g.E.Engine.sells c.args.parts.now.engine) orders) (sym c.requires.agree.quote) fits.1,
     )
 
 pub returns-in-Some-live-clause-most : goal.returns-in-Some-live-clause-most
@@ -85,11 +84,11 @@ returns-in-Some-live-clause-most g c =
     let orders : List Order = c.args.parts.now.orders.items in
     let rows : List Priced = rows_in g.E.Engine.buys g.E.Engine.sells c.args.parts.now in
     let s : State = state_in g.E.Engine.buys g.E.Engine.sells c.args.parts.now in
-    let live : Option Live = live_named c.args.room.orig.member c.args.room.orig.id.items orders rows in
-    let orig : CopiesOrig c.args.room.own.member c.args.room.orig.id.items c.args.room = record { owner = c.requires.orig; orig = refl } in
+    let live : Option Live = live_named c.args.room.orig.member c.args.room.orig.id orders rows in
+    let orig : CopiesOrig c.args.room.own.member c.args.room.orig.id c.args.room = record { owner = c.requires.orig; orig = refl } in
     let r : IsFound orders rows live (Some c.in-Some-live.found) = subst (IsFound orders rows live) c.in-Some-live.is c.find_named-live.ensures.live in
     let one : IsFound orders rows (Some r.0) c.find_named-live.result = subst (λ (o : Option Live). IsFound orders rows o c.find_named-live.result) r.1 c.find_named-live.ensures.live in
-    let examined_is = replace_examined c.args.tick c.args.event.now c.args.room.own.member c.args.room.own.id.items c.args.room.orig.id.items c.args.room s c.requires.own orig c.args.parts.now.entered.items c.args.parts.now.ids.entries c.args.parts.now.log.list _ c.args.terms.now c.requires.command r.0 r.1 (c.rule_of_request.ensures rows (Some r.0) one) c.in-None.is in
+    let examined_is = replace_examined c.args.tick c.args.event.now c.args.room.own.member c.args.room.own.id c.args.room.orig.id c.args.room s c.requires.own orig c.args.parts.now.entered.items c.args.parts.now.ids.entries c.args.parts.now.log.list _ c.args.terms.now c.requires.command r.0 r.1 (c.rule_of_request.ensures rows (Some r.0) one) c.in-None.is in
     rw examined_is (c.replace.ensures.most r.0 r.2)
 
 pub returns-in-Some-live-clause-idle : goal.returns-in-Some-live-clause-idle
@@ -97,7 +96,7 @@ returns-in-Some-live-clause-idle g c =
     let orders : List Order = c.args.parts.now.orders.items in
     let rows : List Priced = rows_in g.E.Engine.buys g.E.Engine.sells c.args.parts.now in
     let s : State = state_in g.E.Engine.buys g.E.Engine.sells c.args.parts.now in
-    let live : Option Live = live_named c.args.room.orig.member c.args.room.orig.id.items orders rows in
-    let orig : CopiesOrig c.args.room.own.member c.args.room.orig.id.items c.args.room = record { owner = c.requires.orig; orig = refl } in
+    let live : Option Live = live_named c.args.room.orig.member c.args.room.orig.id orders rows in
+    let orig : CopiesOrig c.args.room.own.member c.args.room.orig.id c.args.room = record { owner = c.requires.orig; orig = refl } in
     let r : IsFound orders rows live (Some c.in-Some-live.found) = subst (IsFound orders rows live) c.in-Some-live.is c.find_named-live.ensures.live in
     inr (some_rest c.in-Some-live.found.number rows r.0.row r.2.row)

@@ -11,7 +11,7 @@ enter-requires-clause-few g c =
 pub enter-requires-clause-room : goal.enter-requires-clause-room
 enter-requires-clause-room g c =
     let places = c.requires.places.places in
-    let buffers = c.requires.places.buffers in (
+    let copies = c.requires.places.copies in (
       omega (arith, places, ap length c.cut.ensures.buys, ap length c.cut.ensures.sells, few_without c.args.named.found.row.entry (g.E.Engine.buys c.args.parts.now.engine), few_without c.args.named.found.row.entry (g.E.Engine.sells c.args.parts.now.engine)),
-      omega (arith, buffers, ap length c.cut.ensures.buys, ap length c.cut.ensures.sells, few_without c.args.named.found.row.entry (g.E.Engine.buys c.args.parts.now.engine), few_without c.args.named.found.row.entry (g.E.Engine.sells c.args.parts.now.engine)),
+      omega (arith, copies, ap length c.cut.ensures.buys, ap length c.cut.ensures.sells, few_without c.args.named.found.row.entry (g.E.Engine.buys c.args.parts.now.engine), few_without c.args.named.found.row.entry (g.E.Engine.sells c.args.parts.now.engine)),
     )

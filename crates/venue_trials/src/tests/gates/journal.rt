@@ -6,7 +6,7 @@ use std::alloc::Global;
 use std::marker::Model;
 use std::sync::ledger::Ledger;
 use venue_words::{
-    Bytes, Command, Event, FloorRefusal, Held, Items, Kind, Look, NoMemory, Report, Steps,
+    Command, Event, FloorRefusal, Held, Id, Items, Kind, Look, NoMemory, Report, Steps,
 };
 
 // A journal of at most `limit` events.
@@ -45,7 +45,7 @@ impl Journal {
 }
 
 // A report to the member whose number is the event's feed.
-fn report(alloc: Global, event: &Event) -> Report
+fn report(event: &Event) -> Report
     ensures { result ≡ report_of event.now }
 {
     Report {
@@ -54,7 +54,7 @@ fn report(alloc: Global, event: &Event) -> Report
         member: event.feed,
         moment: event.moment,
         kind: Kind::Unknown {
-            id: Bytes(Vec::new(alloc)),
+            id: Id::short(&[]),
             side: 0,
         },
     }
@@ -110,7 +110,7 @@ impl Held for Journal {
         let start = self.events.len().min(from as usize);
         for event in &self.events[start..] {
             if event.feed == member {
-                reports.push(report(self.alloc, event))?;
+                reports.push(report(event))?;
             }
         }
         Ok(Look { reports, front })

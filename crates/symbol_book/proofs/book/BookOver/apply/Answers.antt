@@ -1,6 +1,6 @@
-use Rattle.std.proofs.Common.{◌≡◌, ◌+◌, ◌<◌, ◌∙◌, Some, true, length, sym, ap, subst, arith}
+use Rattle.std.proofs.Common.{◌≡◌, ◌+◌, ◌<◌, ◌≤◌, ◌∙◌, Some, true, length, sym, ap, subst, arith}
 use Rattle.symbol_book.specs.Book.{BookView}
-use Rattle.symbol_book.specs.Commands.{takes_command, key_for}
+use Rattle.symbol_book.specs.Commands.{id_bytes, takes_command, key_for}
 use Rattle.symbol_book.proofs.Fits.{can_work}
 use Rattle.symbol_book.proofs.Keeping.{kept_next, keeps_orders, few_orders, reports_next}
 use Rattle.symbol_book.proofs.book.BookOver.apply.Goals as goal
@@ -10,7 +10,8 @@ work-requires-clause-fits g c =
     let kept = c.self.invariant.0 in
     let takes : takes_command (length c.self.inside.parts.markets) c.args.event.command ≡ true = subst (λ (v : BookView). takes_command v.markets c.args.event.command ≡ true) (sym c.self.view_is) c.requires.takes in
     let next : c.args.event.number ≡ length c.self.inside.journal.items + 1 = c.requires.number ∙ ap (λ (v : BookView). length v.journal + 1) (sym c.self.view_is) in
-    can_work c.quote_trades_fit.ensures c.new_trades_fit.ensures c.replace_trades_fit.ensures _ _ _ kept.numbered _ c.args.event.number c.args.event.command kept.state next takes
+    let short : id_bytes c.args.event.command ≤ c.self.inside.parts.orders.longest = subst (λ (v : BookView). id_bytes c.args.event.command ≤ v.longest) (sym c.self.view_is) c.requires.longest in
+    (short, can_work c.quote_trades_fit.ensures c.new_trades_fit.ensures c.replace_trades_fit.ensures _ _ _ kept.numbered _ c.args.event.number c.args.event.command kept.state next takes)
 
 pub work-requires-clause-agree : goal.work-requires-clause-agree
 work-requires-clause-agree g c =

@@ -8,4 +8,4 @@ pub returns : goal.returns
 returns c =
     c.contains_key.ensures
     ∙ (held_is_used same_id same_id_swaps c.args.id.now c.self.inside.index.entries
-    ∙ ap (λ (r : IdList). is_used c.args.id.now.member c.args.id.now.id.items (used_of r.entries)) c.self.view_is)
+    ∙ ap (λ (r : IdList). is_used c.args.id.now.member c.args.id.now.id (used_of r.entries)) c.self.view_is)

@@ -9,4 +9,4 @@ returns c =
     c.copied.ensures
     ∙ (c.get.ensures.value
     ∙ (order_is c.args.id.now c.self.inside.index.entries
-    ∙ ap (λ (r : IdList). option_map (λ e. e.order) (entry_of c.args.id.now.member c.args.id.now.id.items r.entries)) c.self.view_is))
+    ∙ ap (λ (r : IdList). option_map (λ e. e.order) (entry_of c.args.id.now.member c.args.id.now.id r.entries)) c.self.view_is))

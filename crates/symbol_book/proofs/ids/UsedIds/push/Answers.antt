@@ -9,8 +9,8 @@ use Rattle.symbol_book.proofs.ids.UsedIds.push.Goals as goal
 pub returns : goal.returns
 returns c =
     let is : map entry_for c.self.inside.index.entries ≡ c.args.self.now.entries = ap (λ (r : IdList). r.entries) c.self.view_is in
-    let fresh : is_used c.args.id.member c.args.id.id.items (used_of (map entry_for c.self.inside.index.entries)) ≡ false =
-    subst (λ (es : List UsedId). is_used c.args.id.member c.args.id.id.items (used_of es) ≡ false) (sym is) c.requires.fresh in
+    let fresh : is_used c.args.id.member c.args.id.id (used_of (map entry_for c.self.inside.index.entries)) ≡ false =
+    subst (λ (es : List UsedId). is_used c.args.id.member c.args.id.id (used_of es) ≡ false) (sym is) c.requires.fresh in
     let last : UsedId = entry_for (c.args.id, c.args.order) in
     let entries : map entry_for c.insert.new.self.entries ≡ c.args.self.now.entries ++ last ∷ [] =
     ap (map entry_for) c.in-Ok.ensures.entries ∙ (pushed_last c.self.inside.index c.args.id _ fresh ∙ ap (λ (es : List UsedId). es ++ last ∷ []) is) in
