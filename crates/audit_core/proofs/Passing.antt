@@ -377,15 +377,6 @@ line_differs old from to before left line is_over number expected x place refuse
   λ text e. let more = line_ahead from to before left line is_over text x e in differs_here old line text more.0 expected x.clear refuses more.2,
 )
 
-pub line_large : (from to : Reading) (before left : Option (List ℕ)) (line : List ℕ) → HandsOut from to before left line true
-    → (text : List ℕ) → ahead from.held before ≡ Some text → from.most < from.bytes + length text
-line_large from to before left line x text e =
-    let more = line_ahead from to before left line true text x e in
-    let over : from.most < to.bytes = ltb-true _ _ (sym x.over) in
-    let bytes : to.bytes ≡ from.bytes + length line + 1 = ap (λ (r : Reading). r.bytes) x.next in
-    let size : length text ≡ length line + length (10 ∷ more.0) = ap length more.2 ∙ length-append line (10 ∷ more.0) in
-    omega arith
-
 pub end_same : (telling : Telling) (old : Auditing) (from to : Reading) (before left : Option (List ℕ)) (rest : List ℕ) (a b : Output)
     → IsAllRead from to before left rest → b ≡ a
     → ((read told : List ℕ) → HasRead telling old read told → Lists telling old.config (read ++ rest) told)

@@ -95,9 +95,3 @@ kept_past journal worked le =
 
 pub kept_none : (journal : List (List ℕ)) → kept journal [] ≡ journal
 kept_none journal = refl
-
--- where all that were worked are the journal's, it is as it was; else they are all that it has
-pub kept_had : (journal worked : List (List ℕ)) → IsFront worked journal → kept journal worked ≡ journal
-kept_had journal worked x =
-    ap (λ (l : List (List ℕ)). worked ++ drop (length worked) l) x.1
-    ∙ ap (λ (l : List (List ℕ)). worked ++ l) (drop-append_seam worked x.0) ∙ sym x.1

@@ -386,16 +386,3 @@ pub words_without_form : (files : Option Files) (words : List (List ℕ)) (disk 
     → (why ≡ word.BadWords → files_of words ≡ None) → Ends files words disk disk t t (words_refused why)
 words_without_form files words disk t word.BadWords now h = no_form files words disk t now (h refl)
 words_without_form files words disk t word.NoMemory now h = no_memory files words disk t now
-
-pub words_named : (files : Option Files) (words : List (List ℕ)) (named : DayFiles) (begun ended : Told) (old new : Seen) (status : DayStatus)
-    → files_of words ≡ Some named → RanFiles files named.script begun ended old new status → Ends files words begun ended old new status
-words_named files words named begun ended old new status e ran =
-    let name : script_named words ≡ Some named.script = ap (λ (o : Option DayFiles). option_map (λ f. f.script) o) e in
-    record {
-      bytes = ran.bytes;
-      script = subst (λ (o : Option (List ℕ)). IsScript files o ran.bytes) (sym name) ran.script;
-      ran = ran.ran;
-      bad_words = λ bad. absurd (ran.words bad);
-      other_words = λ none. absurd (let both = sym e ∙ none in cc);
-      missing = λ lacks. ran.missing (subst (λ (o : Option (List ℕ)). LacksScript files o) name lacks);
-    }

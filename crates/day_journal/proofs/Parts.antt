@@ -65,8 +65,3 @@ stops file part last at Damaged lt begins ends (is_open, why) =
     subst (λ f. length (drop at f) ≤ 5 + length_in (drop at f)) (sym is) short.1)))
     why
 stops file part last at Cut lt begins ends stands = tt
-
-pub long_cut : (part : List ℕ) (last : Bool) (at : ℕ) (stop : Stop) → at < length part → StandsAs (drop at part) last stop → IsLongCut (length part) last at stop
-long_cut part last at Closed lt stands = tt
-long_cut part last at Damaged lt stands = tt
-long_cut part last at Cut lt stands = (stands.1, omega (arith, stands.2, length-drop at part, lt))

@@ -84,11 +84,6 @@ recorded_here xs ys one number e n =
     (sym (ap (listed_of one.symbol) e ∙ listed_here one.symbol xs one refl))
     (records_one (listed_of one.symbol xs) one number n)
 
-pub kept_elsewhere : (xs ys : List Listed) (one : Listed) (other : ℕ) → ys ≡ xs ++ one ∷ [] → other ≢ one.symbol
-    → view_of (listed_of other ys) ≡ view_of (listed_of other xs)
-kept_elsewhere xs ys one other e n =
-    ap view_of (ap (listed_of other) e ∙ listed_elsewhere other xs one (λ s. n (sym s)))
-
 -- the journal behind it, as a call of `submit` asks for its steps
 pub journal_behind : (xs ys : List Listed) (one : Listed) (number : ℕ) → ys ≡ xs ++ one ∷ []
     → number ≡ length (listed_of one.symbol xs) + 1
@@ -153,11 +148,6 @@ asked_more members markets symbols symbols' xs ys one e s is all =
     subst (λ (n : ℕ). All (λ (x : Listed). IsFor (listing_setup members markets n) (asked_of x)) ys) (sym s)
     (subst (All (λ (x : Listed). IsFor (listing_setup members markets symbols) (asked_of x))) (sym e)
     (All-push (λ (x : Listed). IsFor (listing_setup members markets symbols) (asked_of x)) xs one all is))
-
-pub no_limit_at : (symbols symbol : ℕ) → symbol < symbols → slice_index (replicate symbols no_limit) symbol ≡ no_limit
-no_limit_at zero symbol l = absurd (omega arith)
-no_limit_at (suc symbols) zero l = refl
-no_limit_at (suc symbols) (suc symbol) l = no_limit_at symbols symbol (omega arith)
 
 pub limits_count : (symbols : ℕ) → length (replicate symbols no_limit) ≡ symbols
 limits_count zero = refl

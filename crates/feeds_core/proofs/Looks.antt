@@ -35,14 +35,6 @@ free_goes None (Some member) n line next = refl
 free_goes (Some one) None n line next = refl
 free_goes (Some one) (Some member) n line next = refl
 
-free_stops : (old : Option Naming) (named : Option ℕ) (n : ℕ) (line : Line) (next : Option LineFault)
-    → or_else (shared_fault old) (or_else (weighed_of true false line n) next)
-    ≡ or_else (shared_fault (or_else old (naming_of named n false))) (Some (Limit n Bytes))
-free_stops None None n line next = refl
-free_stops None (Some member) n line next = refl
-free_stops (Some one) None n line next = refl
-free_stops (Some one) (Some member) n line next = refl
-
 goes_by : (old : Option Naming) (named : Option ℕ) (taken : ℕ → Bool) (b : Bool) (n : ℕ) (line : Line) (next : Option LineFault)
     → is_taken taken named ≡ b
     → or_else (shared_fault old) (or_else (weighed_of false b line n) next)
@@ -51,37 +43,8 @@ goes_by old None taken true n line next e = absurd (cc)
 goes_by old (Some member) taken true n line next e = taken_stops old member n line false next next
 goes_by old named taken false n line next e = free_goes old named n line next
 
-stops_by : (old : Option Naming) (named : Option ℕ) (taken : ℕ → Bool) (b : Bool) (n : ℕ) (line : Line) (next : Option LineFault)
-    → is_taken taken named ≡ b
-    → or_else (shared_fault old) (or_else (weighed_of true b line n) next)
-    ≡ or_else (shared_fault (or_else old (naming_of named n b))) (Some (Limit n Bytes))
-stops_by old None taken true n line next e = absurd (cc)
-stops_by old (Some member) taken true n line next e = taken_stops old member n line true next (Some (Limit n Bytes))
-stops_by old named taken false n line next e = free_stops old named n line next
-
 -- ---- by what was read
 
 abbrev pub GoesOn : (ℕ → Bool) → ℕ → ℕ → List Naming → List Naming → Result Line LineFault → Option LineFault → Option LineFault → Type 0
 GoesOn taken n bytes old new read next behind =
     refused_by taken old (or_else (fault_of taken n bytes read) next) ≡ refused_by taken new behind
-
-pub looked_on : (taken : ℕ → Bool) (n bytes : ℕ) (old new : List Naming) (line : Line) (next : Option LineFault)
-    → Notes (named_by line) n old new → nat_lt MAX_CONFIG_BYTES bytes ≡ false → GoesOn taken n bytes old new (Ok line) next next
-looked_on taken n bytes old new line next notes e =
-    rw (e, notes.first taken) (goes_by (first_shared taken old) (named_by line) taken (is_taken taken (named_by line)) n line next refl)
-
-pub looked_over : (taken : ℕ → Bool) (n bytes : ℕ) (old new : List Naming) (line : Line) (next : Option LineFault)
-    → Notes (named_by line) n old new → nat_lt MAX_CONFIG_BYTES bytes ≡ true
-    → GoesOn taken n bytes old new (Ok line) next (Some (fault_at n (over 1 (let x : Result Line LineFault = Ok line in x))))
-looked_over taken n bytes old new line next notes e =
-    rw (e, notes.first taken) (stops_by (first_shared taken old) (named_by line) taken (is_taken taken (named_by line)) n line next refl)
-
-refused_on : (taken : ℕ → Bool) (n : ℕ) (named : List Naming) (b : Bool) (fault : LineFault) (next : Option LineFault)
-    → refused_by taken named (or_else (option_map (fault_at n) (fault_in (cond b (Err (over_fault fault)) (let x : Result Line LineFault = Err fault in x)))) next)
-    ≡ refused_by taken named (Some (fault_at n (cond b (over_fault fault) fault)))
-refused_on taken n named true fault next = refl
-refused_on taken n named false fault next = refl
-
-pub looked_refused : (taken : ℕ → Bool) (n bytes : ℕ) (named : List Naming) (fault : LineFault) (next : Option LineFault)
-    → GoesOn taken n bytes named named (Err fault) next (Some (fault_at n (cond (nat_lt MAX_CONFIG_BYTES bytes) (over_fault fault) fault)))
-looked_refused taken n bytes named fault next = refused_on taken n named (nat_lt MAX_CONFIG_BYTES bytes) fault next

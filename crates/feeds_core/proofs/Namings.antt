@@ -29,12 +29,6 @@ any_more : (p : Naming → Bool) (xs : List Naming) (one : Naming) → list_any 
 any_more p [] one = or_false (p one)
 any_more p (x ∷ xs) one = ap (λ (b : Bool). p x || b) (any_more p xs one) ∙ sym (or_assoc (p x) (list_any p xs) (p one))
 
-pub notes_none : (line : ℕ) (named : List Naming) → Notes None line named named
-notes_none line named = record {
-  first = λ taken. sym (or_none (first_shared taken named));
-  names = λ member. sym (or_false (has_name named member));
-}
-
 -- a member is named for the first time
 pub notes_new : (member line : ℕ) (old new : List Naming) → new ≡ old ++ record { member = member; line = line } ∷ []
     → Notes (Some member) line old new

@@ -9,18 +9,6 @@ use Rattle.venue_core.specs.SeatLaws.{gates_after_split, gates_split_off}
 use Rattle.venue_core.specs.Venues.{VenueId, AreSeatsOf}
 use Rattle.feeds_core.specs.Joined.{IsIdle, AreIdleSeats}
 
-first_idle : (seats : List SeatState) → All IsFirstSeat seats → All (IsIdle whole) seats
-first_idle [] all = All-nil (IsIdle whole)
-first_idle (seat ∷ seats) all =
-    let is = All-head IsFirstSeat seat seats all in
-    All-cons (IsIdle whole) seat seats (record { seen = is.seen; mine = is.mine; part = is.part })
-    (first_idle seats (All-tail IsFirstSeat seat seats all))
-
--- the first seats of a venue are idle and have all parts
-pub first_seats : (venue : VenueId) (seats : List SeatState) → AreSeatsOf venue seats → All IsFirstSeat seats
-    → AreIdleSeats venue whole seats
-first_seats venue seats are all = record { are = are; idle = first_idle seats all }
-
 after_idle : (parts : ℕ) (seats : List SeatState) → All (IsIdle parts) seats → All (IsIdle (parts - 1)) (map after_split seats)
 after_idle parts [] all = All-nil (IsIdle (parts - 1))
 after_idle parts (seat ∷ seats) all =

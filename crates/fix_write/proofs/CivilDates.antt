@@ -20,9 +20,6 @@ march_within days h = omega arith
 march_bound : (days : ℕ) → days < 7400000 → march_day days < 366
 march_bound days h = omega arith
 
-year_low : (days : ℕ) → 3652365 ≤ days → days < 7400000 → 9999 ≤ march_year days
-year_low days h l = omega arith
-
 year_late : (days : ℕ) → 3652365 ≤ days → days < 7304790 → march_month days ≤ 12 → (10000 ≤ march_year days) × (march_year days ≤ 19999)
 year_late days h l m = (omega (arith, march_value days (omega arith), march_within days (omega arith)), omega arith)
 

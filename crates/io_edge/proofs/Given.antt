@@ -19,12 +19,6 @@ items_at items k item at =
     = rw (add-one k) (drop-cons items k item (slice_get_within items k item at)) in
     same ∙ rw here refl
 
-items_past : (items : List LinkItem) (k : ℕ) → slice_get items k ≡ None → drop k items ≡ []
-items_past [] zero at = refl
-items_past [] (suc k) at = refl
-items_past (x ∷ items) zero at = cc
-items_past (x ∷ items) (suc k) at = items_past items k at
-
 -- all of an item
 items_whole : (items : List LinkItem) → items_from 0 items ≡ map answer_in items
 items_whole [] = refl
@@ -38,17 +32,9 @@ before_bytes : (bytes : List ℕ) (rest : List Answer) → 0 < length bytes → 
 before_bytes [] rest some = absurd (omega arith)
 before_bytes (x ∷ bytes) rest some = refl
 
-pub gives_quiet : (items : List LinkItem) (k at : ℕ) (item : LinkItem) → slice_get items k ≡ Some item
-    → item_from at item ≡ quiet → Gives (items_from at (drop k items)) quiet (items_from 0 (drop (k + 1) items))
-gives_quiet items k at item here is = rw (items_at items k item here, is, items_whole (drop (k + 1) items)) refl
-
 pub gives_end : (items : List LinkItem) (k at : ℕ) → slice_get items k ≡ Some End
     → Gives (items_from at (drop k items)) ended (items_from at (drop k items))
 gives_end items k at here = rw (items_at items k End here) (tt, refl)
-
-pub gives_none : (items : List LinkItem) (k at : ℕ) → slice_get items k ≡ None
-    → Gives (items_from at (drop k items)) ended (items_from at (drop k items))
-gives_none items k at here = rw (items_past items k here) (tt, refl)
 
 -- a slice from a place on
 pub tail_of : (xs ys : List ℕ) (at : ℕ) → xs ≡ ys → take (length xs - at) (drop at xs) ≡ drop at ys

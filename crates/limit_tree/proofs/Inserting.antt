@@ -81,9 +81,6 @@ pub split_of : {rows top front back : List Row} {row : Row} → rows ≡ top →
 split_of {rows} {top} {front} {back} {row} e f o =
     record { is = e ∙ f; ordered = rw f at o; shorter = rw (e, f, length-append) (omega arith, omega arith) }
 
-pub free_front : {rows front back : List Row} {row : Row} (cap entry : ℕ) → IsSplit rows front row back → IsFree cap entry rows → IsFree cap entry front
-free_front {rows} {front} {back} {row} cap entry s f = all_front (λ row. row.cap ≡ cap → row.entry ≢ entry) front (row ∷ back) (rw s.is at f)
-
 pub free_back : {rows front back : List Row} {row : Row} (cap entry : ℕ) → IsSplit rows front row back → IsFree cap entry rows → IsFree cap entry back
 free_back {rows} {front} {back} {row} cap entry s f = (all_back (λ row. row.cap ≡ cap → row.entry ≢ entry) front (row ∷ back) (rw s.is at f)).1
 

@@ -90,9 +90,6 @@ counts_read config symbol events reports names h k =
 
 -- ---- lines without their LF
 
-pub without_end : (line : List ℕ) → take (length (line ++ 10 ∷ []) - 1) (line ++ 10 ∷ []) ≡ line
-without_end line = take_at line (10 ∷ []) (length (line ++ 10 ∷ []) - 1) (omega (arith, length-append line (10 ∷ [])))
-
 -- ---- only what is written is told
 
 pub only_event : (config : Config) (symbol : ℕ) (text : List ℕ) (read event : Event) → IsConfig config → has_word_names config ≡ true

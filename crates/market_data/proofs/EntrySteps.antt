@@ -39,19 +39,6 @@ entry_all (field ∷ fields) some e =
 
 -- ---- markets that are named
 
-with_rest : (test : Bool) (before rest_named rest_not : List ℕ) (market : ℕ) → before ++ cond test rest_named (market ∷ rest_not) ≡ cond test (before ++ rest_named) ((before ++ market ∷ []) ++ rest_not)
-with_rest true before rest_named rest_not market = refl
-with_rest false before rest_named rest_not market = sym (append_assoc before (market ∷ []) rest_not)
-
-choice : (test : Bool) (a b : List ℕ) (f : List ℕ → List ℕ) → cond test (a ++ f a) (b ++ f b) ≡ cond test a b ++ f (cond test a b)
-choice true a b f = refl
-choice false a b f = refl
-
-pub named_step : (before : List ℕ) (market : ℕ) (markets : List ℕ) → before ++ first_named before (market ∷ markets) ≡ with_named before market ++ first_named (with_named before market) markets
-named_step before market markets =
-    with_rest (is_named before market) before (first_named before markets) (first_named (before ++ market ∷ []) markets) market
-    ∙ choice (is_named before market) before (before ++ market ∷ []) (λ (seen : List ℕ). first_named seen markets)
-
 pub entries-none : entries_of [] ≡ []
 unfolding entries_of
 entries-none = refl
@@ -80,10 +67,6 @@ pub cents_within : (units read : ℤ) → read ≡ units → lt_z read (pos 0) �
 unfolding cents_of_amount
 cents_within (pos n) read e h = ap (λ (z : ℤ). whole_cents (nat_abs z)) e
 cents_within (negsuc n) read e h = absurd (let t : lt_z (negsuc n) (pos 0) ≡ false = subst (λ (z : ℤ). lt_z z (pos 0) ≡ false) e h in cc)
-
-pub cents_fit : (units read : ℤ) → read ≡ units → lt_z (pos 1999999000000) read ≡ false → lt_z read (pos 0) ≡ false → nat_abs read ≤ 1999999000000
-cents_fit (pos n) read e h k = rw e (let t : lt_z (pos 1999999000000) (pos n) ≡ false = subst (λ (z : ℤ). lt_z (pos 1999999000000) z ≡ false) e h in grind (arith, nat_tests))
-cents_fit (negsuc n) read e h k = absurd (let t : lt_z (negsuc n) (pos 0) ≡ false = subst (λ (z : ℤ). lt_z z (pos 0) ≡ false) e k in cc)
 
 -- a slice to the end is what is left
 pub tail : {A : Type 0} (k : ℕ) (xs : List A) → take (length xs - k) (drop k xs) ≡ drop k xs

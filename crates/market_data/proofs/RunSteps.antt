@@ -54,22 +54,6 @@ pub unread : (told : Option Files) (plan : Named) (old left : Option (List ℕ))
 unread None plan old left s h = tt
 unread (Some files) plan old left s h = unread_text plan.source (file_named files plan.input) old left (file_named files plan.config) s h
 
-err_is : (fault other : ConfigFault) → (let x : Result ConfigFile ConfigFault = Err fault in x) ≡ Err other → fault ≡ other
-err_is fault other e = cc
-
-either_is : (fault : ConfigFault) → ((let x : Result ConfigFile ConfigFault = Err fault in x) ≡ Err ReadFault) ⊎ ((let x : Result ConfigFile ConfigFault = Err fault in x) ≡ Err NoMemory) → (fault ≡ ReadFault) ⊎ (fault ≡ NoMemory)
-either_is fault (inl e) = inl (err_is fault ReadFault e)
-either_is fault (inr e) = inr (err_is fault NoMemory e)
-
--- the config was not read
-pub config_refused : (told : Option Files) (plan : Named) (old left : Option (List ℕ)) (fault : ConfigFault)
-    → IfSome told (λ files. IfSome (file_named files plan.config) (λ text. MeetsConfig (config_file MAX_CONFIG_BYTES text) (Err fault)))
-    → IfSome told (λ files. IsNone (file_named files plan.config) → ((let x : Result ConfigFile ConfigFault = Err fault in x) ≡ Err ReadFault) ⊎ ((let x : Result ConfigFile ConfigFault = Err fault in x) ≡ Err NoMemory))
-    → IfSome told (λ files. Runs files plan old old left (refused fault))
-config_refused None plan old left fault read missing = tt
-config_refused (Some files) plan old left fault read missing =
-    text_refused plan.source (file_named files plan.input) old left (file_named files plan.config) fault read (λ none. either_is fault (missing none))
-
 -- the input was begun
 fed_input : (config : Config) (source : List ℕ) (named first old new left : Option (List ℕ)) (s : MarketStatus) → IsSome named → first ≡ named
     → IfSome first (λ bytes. Ran config source bytes old new left s) → RunsInput config source named old new left s
@@ -142,17 +126,3 @@ pub words_refused : (told : Option Files) (words : List (List ℕ)) (old left : 
     → (why ≡ word.BadWords → plan_of words ≡ None) → Ends told words old old left (refusal_of why)
 words_refused told words old left word.BadWords h = no_form told words old left (h refl)
 words_refused told words old left word.NoMemory h = no_memory told words old left
-
--- a plan was run
-runs_as : (told : Option Files) (found : Option Named) (plan : Named) (old new left : Option (List ℕ)) (s : MarketStatus) → found ≡ Some plan
-    → IfSome told (λ files. Runs files plan old new left s) → IfSome told (λ files. IfSome found (λ p. Runs files p old new left s))
-runs_as None found plan old new left s e h = tt
-runs_as (Some files) found plan old new left s e h = subst (λ (f : Option Named). IfSome f (λ p. Runs files p old new left s)) (sym e) h
-
-pub plan_run : (told : Option Files) (words : List (List ℕ)) (plan : Named) (old new left : Option (List ℕ)) (s : MarketStatus) → plan_of words ≡ Some plan
-    → (s ≡ status.BadWords → ⊥) → IfSome told (λ files. Runs files plan old new left s) → Ends told words old new left s
-plan_run told words plan old new left s e good h = record {
-  runs = runs_as told (plan_of words) plan old new left s e h;
-  bad_words = λ bad. absurd (good bad);
-  other_words = λ none. absurd (let x : (let o : Option Named = None in o) ≡ Some plan = sym none ∙ e in cc);
-}

@@ -27,12 +27,6 @@ unfolding walk
 walk_done t [] = refl
 walk_done t (x ∷ xs) = elim (crosses t x) as (λ b. cond (b && false) (record { contra = x; shares = taken_from t.row 0 x.row } ∷ walk t (0 - taken_from t.row 0 x.row) xs) [] ≡ []) [ true ↦ refl | false ↦ refl ]
 
-pub none_next : (t : Priced) (rows : List Priced) → NoneActive rows → NoNext t rows
-none_next t rows a left = rw (none_in_priority rows a) (walk_none t left)
-
-pub blocked_next : (t x : Priced) (rows : List Priced) → IsFirst rows x → crosses t x ≡ false → NoNext t rows
-blocked_next t x rows b h left = rw (first_of_priority rows x b) (walk_blocked t left x (in_priority (without_entry x.row.entry rows)) h)
-
 by_entry_uninsert : (x : Priced) (rows : List Priced) → IsByEntry (insert_by_entry x rows) → IsByEntry rows
 by_entry_uninsert x [] o = tt
 by_entry_uninsert x (f ∷ rows) o =

@@ -31,17 +31,8 @@ use Rattle.match_core.proofs.Kept.{all_mapped, all_unfilled, all_after, rows_kep
 
 -- ---- what the rows of a side are
 
-pub full_rows : (side : Side) (latest : ℕ) (rows : List Priced) → AreRowsOf side latest rows → AllByRecursion HasLeaves rows
-full_rows side latest rows r = all_weaken (IsRowOf side latest) HasLeaves (λ x h. h.has) rows r.each
-
 pub last_rows : (side : Side) (latest n : ℕ) (rows : List Priced) → AreRowsOf side latest rows → latest < n → AllByRecursion (λ x. x.row.entry < n) rows
 last_rows side latest n rows r h = all_weaken (IsRowOf side latest) (λ x. x.row.entry < n) (λ x k. omega (arith, h, k.entry)) rows r.each
-
-pub is_later : (side : Side) (best : Best) (latest event : ℕ) (s : SideState) → AreRowsOf side latest s.rows → IsPricedBy best latest s → latest < event → IsLaterThan s event
-is_later side best latest event s r p h = record {
-  pricing = omega (arith, h, p.event);
-  times = all_weaken (IsRowOf side latest) (λ x. x.time < event) (λ x k. omega (arith, h, k.time)) s.rows r.each;
-}
 
 count_from : (n latest : ℕ) (rows : List Priced) → n ≤ latest + 1 → AllByRecursion (λ x. n ≤ x.row.entry) rows → IsByEntry rows → AllByRecursion (λ x. x.row.entry ≤ latest) rows → n + length rows ≤ latest + 1
 count_from n latest [] h a o b = omega (arith, h)

@@ -23,35 +23,10 @@ use Rattle.match_core.proofs.Trades.{row_after_none, row_after_entry, out_back}
 use Rattle.match_core.proofs.AfterTrades.{pf_through, filled_insert, by_entry_map, map_none, filled_all}
 use Rattle.peg_groups.specs.Merge.{map-insert, below_or_not, each_insert, by_entry_insert}
 
-lower_cross : (v u t e w s f : ℕ) → is_ahead u t e w s f ≡ false → nat_le PRICE_END (v + w) ≡ false → nat_le PRICE_END (v + u) ≡ false
-lower_cross v u t e w s f h k = grind (arith, nat_tests)
-
-crosses_less : (t x y : Priced) → (value : ℕ) × (x.value ≡ Some value) → before y x ≡ false → crosses t x ≡ false → crosses t y ≡ false
-crosses_less t x y active h k = go t.value x.value y.value active h k where
-  go : (v w u : Option ℕ) → (n : ℕ) × (w ≡ Some n) → is_ahead_if_active u y.time y.row.entry w x.time x.row.entry ≡ false → values_cross v w ≡ false → values_cross v u ≡ false
-  go None w u a b d = refl
-  go (Some v) w None a b d = refl
-  go (Some v) None (Some u) a b d = let e = a.1 in cc
-  go (Some v) (Some w) (Some u) a b d = lower_cross v u y.time y.row.entry w x.time x.row.entry b d
-
 pub none_crosses : (t : Priced) (rows : List Priced) → AllByRecursion (λ y. crosses t y ≡ false) rows → crosses_any t rows ≡ false
 unfolding crosses_any
 none_crosses t [] a = refl
 none_crosses t (y ∷ rows) a = rw a.0 (none_crosses t rows a.1)
-
--- where the first row doesn't cross, none does
-pub first_blocks : (t x : Priced) (rows : List Priced) → IsFirst rows x → crosses t x ≡ false → crosses_any t rows ≡ false
-first_blocks t x rows b h = none_crosses t rows (all_weaken (λ y. before y x ≡ false) (λ y. crosses t y ≡ false) (λ y k. crosses_less t x y b.active k h) rows b.first)
-
-crosses_none : (t y : Priced) → y.value ≡ None → crosses t y ≡ false
-crosses_none t y e = go t.value y.value e where
-  go : (v u : Option ℕ) → u ≡ None → values_cross v u ≡ false
-  go None u k = refl
-  go (Some v) None k = refl
-  go (Some v) (Some u) k = cc
-
-pub none_active_blocks : (t : Priced) (rows : List Priced) → NoneActive rows → crosses_any t rows ≡ false
-none_active_blocks t rows a = none_crosses t rows (all_weaken (λ y. y.value ≡ None) (λ y. crosses t y ≡ false) (λ y k. crosses_none t y k) rows a)
 
 or_true : (b : Bool) → (b || true) ≡ true
 or_true true = refl

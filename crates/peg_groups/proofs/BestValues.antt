@@ -76,7 +76,3 @@ pub under_cap : (value : Option ℕ) (rows : List Row) → is_empty rows ≡ fal
 under_cap value [] h = cc
 under_cap None (row ∷ rows) h = under-none rows
 under_cap (Some value) (row ∷ rows) h = under-some value row rows
-
-pub under_empty : (value : Option ℕ) (rows : List Row) → is_empty rows ≡ true → None ≡ best_under value rows
-under_empty value [] h = refl
-under_empty value (row ∷ rows) h = cc

@@ -155,10 +155,6 @@ paired_length R [] (e ∷ es) p = absurd p
 paired_length R (o ∷ os) [] p = absurd p
 paired_length R (o ∷ os) (e ∷ es) p = ap suc (paired_length R os es p.2)
 
--- more room changes no price
-with_room : Staircase → ℕ → Staircase
-with_room m n = record { current = m.current; latest = m.latest; kept = m.kept; room = n }
-
 abbrev Roomier : Key → Group → Group → Type 0
 Roomier _ old new = IsRoomier old new
 

@@ -20,9 +20,6 @@ use Rattle.program_words.specs.Words.{remaining, put_before, is_end_mark, is_fla
 use Rattle.program_words.proofs.Steps.{Texts, standing, waits, top, first_of}
 use Rattle.program_words.proofs.Walks.{AllFirst, HasFirst, Reads, faults, ends, joined, reads}
 
-pub is_simple_parser : is_simple_and_free parser ≡ true
-is_simple_parser = refl
-
 -- ---- what is kept of a match
 
 pick : (t : Bool) (id : List ℕ) (e : Entry) (es : List Entry) → bytes_eq e.0.now id ≡ t

@@ -47,11 +47,6 @@ end_of_text n (Head header) rest = refl
 end_of_text n (Body playing) [] = refl
 end_of_text n (Body playing) (b ∷ rest) = refl
 
-end_of_steps : (n : ℕ) (stage : Stage) (rest : List ℕ) → (end_of n stage rest).steps ≡ 0
-end_of_steps n (Head header) rest = refl
-end_of_steps n (Body playing) [] = refl
-end_of_steps n (Body playing) (b ∷ rest) = refl
-
 either_text : (b : Bool) (x y : Played) → x.text ≡ [] → y.text ≡ [] → (cond b x y).text ≡ []
 either_text true x y e f = e
 either_text false x y e f = f
@@ -64,10 +59,6 @@ end_at_text p held = either_text (nat_lt MAX_LINE_BYTES (length held)) _ _ refl 
 either_steps : (b : Bool) (x y : Played) → x.steps ≡ 0 → y.steps ≡ 0 → (cond b x y).steps ≡ 0
 either_steps true x y e f = e
 either_steps false x y e f = f
-
-pub end_at_steps : (p : Place) (held : List ℕ) → (end_at p held).steps ≡ 0
-unfolding end_at
-end_at_steps p held = either_steps (nat_lt MAX_LINE_BYTES (length held)) _ _ refl (end_of_steps (p.lines + 1) p.stage held)
 
 end_of_fault : (n : ℕ) (stage : Stage) (rest : List ℕ) → (end_of n stage rest).fault ≡ Some NoMemory → ⊥
 end_of_fault n (Head header) rest e = cc

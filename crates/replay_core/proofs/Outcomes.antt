@@ -78,12 +78,6 @@ line_within old new before left line is_over h inside =
     let within : new.bytes ≤ old.most = grind (arith, nat_tests) in
     omega (arith, within, most)
 
--- all of a text is a prefix of it
-pub prefix_whole : (old new : Option (List ℕ)) (text : List ℕ) → Appends old new text → AppendsPrefix old new text
-prefix_whole old new text grew =
-    let all : take (length text) text ≡ text = rw append-nil at (take-append_seam text []) in
-    (length text, rw all grew)
-
 pub prefix_none : (t : Option (List ℕ)) (text : List ℕ) → AppendsPrefix t t text
 prefix_none t text = (0, appends_none t)
 

@@ -42,9 +42,3 @@ pub stood_at : (desks : ToldDesks) (member : ℕ) (result : Option DeskView) (de
     → IfSome desks (λ each. result ≡ desk_at each member) → IfSome desks (λ each. desk_at each member ≡ Some desk)
 stood_at None member result desk is at = tt
 stood_at (Some each) member result desk is at = sym at ∙ is
-
--- and where none was taken none stood there
-pub absent_at : (desks : ToldDesks) (member : ℕ) (result : Option DeskView) → result ≡ None
-    → IfSome desks (λ each. result ≡ desk_at each member) → IfSome desks (λ each. desk_at each member ≡ None)
-absent_at None member result is at = tt
-absent_at (Some each) member result is at = sym at ∙ is

@@ -119,11 +119,6 @@ line_refused at mark feed n meant (fault.Limit k which) p (inl wanted) = absurd 
 line_refused at mark feed n meant (fault.Limit k which) p (inr e) = (e, refl)
 line_refused at mark feed n meant fault.NoMemory p x = (submits_none at feed p, inl refl)
 
--- bytes behind the last line have no end
-pub rest_ends : (n : ℕ) (rest : List ℕ) → length rest ≤ MAX_LINE_BYTES → (rest ≡ [] → ⊥) → end_with (rest_fault n rest) ≡ BadLine n NoEnd
-rest_ends n [] short some = absurd (some refl)
-rest_ends n (b ∷ rest) short some = rw (short_line (b ∷ rest) short) refl
-
 -- ---- a quote that is submitted
 
 gave_one : (moment : ℤ) (a b : Option (List ℤ)) → GaveMoment moment a b → GaveMoments (moment ∷ []) a b
@@ -146,17 +141,6 @@ submits_no at feed a b k grew = record { timed = []; are = refl; moments = momen
 
 -- ---- a file that was begun
 
-pub begun_named : (told : Option Files) (name : List ℕ) (left : Option (List ℕ)) (P : List ℕ → Type 0) → Opens told name left → IfSome left P
-    → IfSome told (λ files. IfSome (file_named files name) P)
-begun_named None name left P opens x = tt
-begun_named (Some files) name left P opens x = subst (λ (k : Option (List ℕ)). IfSome k P) opens.1 x
-
 none_there : (first : Option (List ℕ)) → IsSome first → first ≡ None → ⊥
 none_there None some e = absurd (cc)
 none_there (Some x) some e = cc
-
--- a file that was begun is there
-pub begun_there : (told : Option Files) (name : List ℕ) (left : Option (List ℕ)) (P : Type 0) → Opens told name left
-    → IfSome told (λ files. file_named files name ≡ None → P)
-begun_there None name left P opens = tt
-begun_there (Some files) name left P opens = λ none. absurd (none_there (file_named files name) opens.0 none)

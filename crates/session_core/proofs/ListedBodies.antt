@@ -46,13 +46,6 @@ pub messages_pushed : (bodies body : List ℕ) (parts : List Part) (kind : Messa
 messages_pushed bodies body parts kind within =
     rw (map-append (message_in (bodies ++ body)) parts (part_behind bodies kind body ∷ []), messages_before bodies body parts within, slice_behind bodies body) refl
 
-pub within_pushed : (bodies body : List ℕ) (parts : List Part) (kind : MessageType) → All (IsWithin (length bodies)) parts →
-    All (IsWithin (length (bodies ++ body))) (parts ++ part_behind bodies kind body ∷ [])
-within_pushed bodies body parts kind within =
-    let whole = length-append bodies body in
-    let before = all_within_more (length bodies) (length (bodies ++ body)) parts (omega arith) within in
-    All-push (IsWithin (length (bodies ++ body))) parts (part_behind bodies kind body) before (omega arith, omega arith)
-
 -- ---- messages that are added
 
 slice_moved : (bodies more : List ℕ) (start end : ℕ) →

@@ -126,10 +126,6 @@ pub entries_numbered : (messages : List Message) (moments : List ℤ) (places : 
 entries_numbered messages moments places count =
     rw (map-append (entry_in messages moments) places (no_places count), nothing_kept messages moments count) refl
 
-pub among_numbered : (count more : ℕ) (places : List (Option ℕ)) → All (IsAmong count) places → All (IsAmong count) (places ++ no_places more)
-among_numbered count more places among =
-    All-append (IsAmong count) places (no_places more) among (All-replicate (IsAmong count) more None tt)
-
 pub numbered_is : (messages : List Message) (moments : List ℤ) (places new_places : List (Option ℕ)) (count : ℕ) (before : List (Option Kept)) →
     entries_in messages moments places ≡ before → new_places ≡ places ++ no_places count →
     entries_in messages moments new_places ≡ before ++ numbers count

@@ -17,29 +17,6 @@ use Rattle.venue_core.specs.Venues.{TakesConfigured}
 both : (a b : Bool) → a ≡ true → b ≡ true → (a && b) ≡ true
 both a b p q = (λ k. p k && q k)
 
-takes_so : (setup : Setup) (command : Command) → is_configured setup command ≡ true → fits_limits command ≡ true → takes_command setup.markets command ≡ true
-takes_so setup (Quote market bid offer) is fits = both (fits_limits (Quote market bid offer)) (nat_lt market setup.markets) fits is
-takes_so setup (New member id terms) is fits = both (fits_limits (New member id terms)) true fits refl
-takes_so setup (Cancel member id orig) is fits = both (fits_limits (Cancel member id orig)) true fits refl
-takes_so setup (Replace member id orig terms) is fits = both (fits_limits (Replace member id orig terms)) true fits refl
-takes_so setup (Status member id side) is fits = both (fits_limits (Status member id side)) true fits refl
-
-abbrev pub book_takes : ℕ → Command → Bool
-book_takes setting command = takes_command (markets_in setting) command
-
-new_takes : (setup : Setup) (book : BookView) → IsNewBook setup.markets book → TakesConfigured book_takes setup (setting_of book.markets book.tick)
-new_takes setup book new command is fits =
-    let e : markets_in (setting_of book.markets book.tick) ≡ setup.markets = markets_in-setting_of book.markets book.tick new.tick ∙ new.markets_are in
-    subst (λ (markets : ℕ). takes_command markets command ≡ true) (sym e) (takes_so setup command is fits)
-
-pub all_take : (setup : Setup) (books : List BookView) → All (IsNewBook setup.markets) books
-    → All (λ (book : BookView). TakesConfigured book_takes setup (setting_of book.markets book.tick)) books
-all_take setup books new = All-weaker (IsNewBook setup.markets) (λ (book : BookView). TakesConfigured book_takes setup (setting_of book.markets book.tick))
-    (λ book is. new_takes setup book is) books new
-
-pub all_empty : (markets : ℕ) (books : List BookView) → All (IsNewBook markets) books → All (λ (book : BookView). book.journal ≡ []) books
-all_empty markets books new = All-weaker (IsNewBook markets) (λ (book : BookView). book.journal ≡ []) (λ book is. is.empty) books new
-
 pub settings_of : (markets : ℕ) (books : List BookView) (ticks : List ℕ) → map (λ (book : BookView). book.tick) books ≡ ticks → All (IsNewBook markets) books
     → map (λ (book : BookView). setting_of book.markets book.tick) books ≡ map (setting_of markets) ticks
 settings_of markets [] ticks same new = ap (map (setting_of markets)) same

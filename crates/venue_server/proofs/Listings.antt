@@ -55,18 +55,6 @@ lists_as config listed NoMemory told told' done lists = begun_at config listed t
 lists_as config listed (Full symbol) told told' done lists = begun_at config listed told told' lists
 lists_as config listed ListenFault told told' done lists = begun_at config listed told told' lists
 
--- a status that is not `Done`, where nothing was listed
-pub lists_none : (config : Config) (status : ServeStatus) (told : Option (List ℕ)) → status ≢ Done → Lists config status told told
-lists_none config Done told not = absurd (not refl)
-lists_none config BadWords told not = inl refl
-lists_none config (BadLine line cause) told not = inl refl
-lists_none config (LimitLine line which) told not = inl refl
-lists_none config ReadFault told not = inl refl
-lists_none config WriteFault told not = inl refl
-lists_none config NoMemory told not = inl refl
-lists_none config (Full symbol) told not = inl refl
-lists_none config ListenFault told not = inl refl
-
 -- ---- exits
 
 pub only_write_fault : (status : ServeStatus) → exit_code status ≡ 6 → status ≡ WriteFault

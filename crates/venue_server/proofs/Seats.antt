@@ -108,13 +108,3 @@ module _ {A B : Type 0} (venue_of : A → VenueId) (other_of : B → VenueId) (b
       (λ k job one p q.
       each k job one (within jobs k job p)
       (sym (get_or_from_slice_get jobs k job job p)) (sym (get_or_from_slice_get others k one one q)))
-
--- all are set up as their venue is
-pub setups_of : {A : Type 0} (venue_of : A → VenueId) (before : A → List SeatState) (venue : VenueId) (setup : Setup) (jobs : List A)
-    → setup_in venue ≡ setup → All (λ job. (venue_of job ≡ venue) × HasSeats venue 1 (before job)) jobs
-    → All (λ job. setup_in (venue_of job) ≡ setup) jobs
-setups_of venue_of before venue setup [] is all = All-nil (λ job. setup_in (venue_of job) ≡ setup)
-setups_of venue_of before venue setup (job ∷ jobs) is all =
-    let Was = λ (j : _). (venue_of j ≡ venue) × HasSeats venue 1 (before j) in
-    All-cons (λ (j : _). setup_in (venue_of j) ≡ setup) job jobs (ap setup_in (All-head Was job jobs all).0 ∙ is)
-    (setups_of venue_of before venue setup jobs is (All-tail Was job jobs all))

@@ -1,7 +1,7 @@
 -- An amount is read as itself.
 use Rattle.std.proofs.Common.{◌≡◌, ◌∙◌, to_z, of_z, rules}
 use Rattle.std.specs.Int.{w128}
-use Rattle.market_data.proofs.EntrySteps.{cents_negative, cents_large, cents_within, cents_fit}
+use Rattle.market_data.proofs.EntrySteps.{cents_negative, cents_large, cents_within}
 use Rattle.market_data.proofs.entries.cents_of_amount.Goals as goal
 
 pub returns-then-units-lt0 : goal.returns-then-units-lt0
