@@ -67,7 +67,7 @@ fn same_command(x: &Command, y: &Command) -> bool
         ) => {
             member == other
                 && id.as_slice() == other_id.as_slice()
-                && orig.as_slice() == other_orig.as_slice()
+                && orig.get().as_slice() == other_orig.get().as_slice()
         }
         (
             Command::Replace {
@@ -85,7 +85,7 @@ fn same_command(x: &Command, y: &Command) -> bool
         ) => {
             member == other
                 && id.as_slice() == other_id.as_slice()
-                && orig.as_slice() == other_orig.as_slice()
+                && orig.get().as_slice() == other_orig.get().as_slice()
                 && same_terms(&terms.get(), &other_terms.get())
         }
         (

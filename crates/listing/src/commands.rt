@@ -90,7 +90,7 @@ pub fn push_command(
         }
         Command::Cancel { member, id, orig } => {
             push_field(fields, CL_ORD_ID, id.as_slice())?;
-            push_field(fields, ORIG_CL_ORD_ID, orig.as_slice())?;
+            push_field(fields, ORIG_CL_ORD_ID, orig.get().as_slice())?;
             (MessageType::CancelRequest, *member)
         }
         Command::Replace {
@@ -100,7 +100,7 @@ pub fn push_command(
             terms,
         } => {
             push_field(fields, CL_ORD_ID, id.as_slice())?;
-            push_field(fields, ORIG_CL_ORD_ID, orig.as_slice())?;
+            push_field(fields, ORIG_CL_ORD_ID, orig.get().as_slice())?;
             push_terms(fields, &terms.get())?;
             (MessageType::ReplaceRequest, *member)
         }

@@ -140,13 +140,13 @@ fn fits_fields(command: &Command) -> bool
     match command {
         Command::Quote { .. } => true,
         Command::New { id, terms, .. } => fits_text(id) && fits_terms(&terms.get()),
-        Command::Cancel { id, orig, .. } => fits_text(id) && fits_text(orig),
+        Command::Cancel { id, orig, .. } => fits_text(id) && fits_text(orig.get()),
         Command::Replace {
             id,
             orig,
             terms,
             ..
-        } => fits_text(id) && (fits_text(orig) && fits_terms(&terms.get())),
+        } => fits_text(id) && (fits_text(orig.get()) && fits_terms(&terms.get())),
         Command::Status { id, side, .. } => fits_text(id) && fits_code(*side),
     }
 }
@@ -174,7 +174,7 @@ fn fits_limits(command: &Command) -> bool
         Command::Quote { bid, offer, .. } => fits_quote(*bid) && fits_quote(*offer),
         Command::New { id, .. } => fits_id(id),
         Command::Cancel { id, orig, .. } | Command::Replace { id, orig, .. } => {
-            fits_id(id) && fits_id(orig)
+            fits_id(id) && fits_id(orig.get())
         }
         Command::Status { id, .. } => fits_id(id),
     }

@@ -3,7 +3,7 @@ use case_text::Words;
 use fix_fields::amount;
 use quote_intake::price;
 use std::alloc::AllocError;
-use venue_words::{BoxedTerms, Command, Id, Terms};
+use venue_words::{BoxedId, BoxedTerms, Command, Id, Terms};
 
 /// The number of a member by its letter.
 fn member_of(name: &[u8]) -> u32 {
@@ -81,7 +81,7 @@ fn replace_of(words: &Words<'_>) -> Result<Option<Command>, AllocError> {
     Ok(Some(Command::Replace {
         member: member_of(words.at(0)),
         id: Id::copy_of(words.alloc, words.at(1))?,
-        orig: words.id(b"orig")?,
+        orig: BoxedId::new(words.alloc, words.id(b"orig")?)?,
         terms: BoxedTerms::new(words.alloc, terms)?,
     }))
 }
@@ -91,7 +91,7 @@ fn cancel_of(words: &Words<'_>) -> Result<Option<Command>, AllocError> {
     Ok(Some(Command::Cancel {
         member: member_of(words.at(0)),
         id: Id::copy_of(words.alloc, words.at(1))?,
-        orig: words.id(b"orig")?,
+        orig: BoxedId::new(words.alloc, words.id(b"orig")?)?,
     }))
 }
 

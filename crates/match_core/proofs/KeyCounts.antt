@@ -1,10 +1,10 @@
 -- How many keys the rows of both sides have.
-use Rattle.std.proofs.Common.{◌≡◌, ℕ, suc, ◌+◌, ◌^◌, ◌<◌, ◌≤◌, Bool, true, false, ◌||◌, cond, List, [], ◌∷◌, ◌++◌, length, refl, ap, arith}
+use Rattle.std.proofs.Common.{◌≡◌, ℕ, suc, ◌==◌, ◌+◌, ◌^◌, ◌<◌, ◌≤◌, Bool, true, false, ◌&&◌, ◌||◌, cond, List, [], ◌∷◌, ◌++◌, length, refl, ap, arith}
 use Rattle.std.specs.List.{AllByRecursion, list_any}
 use Rattle.venue_words.specs.declared.price.Side.TheVariants.{Buy, Sell}
 use Rattle.venue_words.specs.declared.row.Key.{Key}
 use Rattle.venue_words.specs.declared.row.Priced.{Priced}
-use Rattle.venue_words.specs.Key.{same_key}
+use Rattle.venue_words.specs.Key.{same_key, reference_number, rounding_number}
 use Rattle.venue_words.specs.ListLaws.{all_weaken}
 use Rattle.eager_meaning.specs.Work.{key_count}
 use Rattle.peg_groups.specs.KeyCount.{key_count as side_keys}
@@ -29,8 +29,14 @@ any_both p [] [] a = refl
 any_both p [] (y ∷ ys) a = rw a.0 (any_both p [] ys a.1)
 any_both p (x ∷ xs) ys a = ap (λ (b : Bool). p x || b) (any_both p xs ys a)
 
+one_fails : (p q r : Bool) → (p && (q && (false && r))) ≡ false
+one_fails true true r = refl
+one_fails true false r = refl
+one_fails false q r = refl
+
 other_key : (a b : Key) → a.side ≡ Buy → b.side ≡ Sell → same_key a b ≡ false
-other_key a b s t = rw (s, t) refl
+other_key a b s t =
+    rw (s, t) (one_fails _ _ ((reference_number a.reference == reference_number b.reference) && (rounding_number a.rounding == rounding_number b.rounding)))
 
 -- no buy has a key of a sell
 pub count_both : (latest : ℕ) (buys sells : List Priced) → AreBoth latest buys sells → key_count (buys ++ sells) ≡ key_count buys + key_count sells

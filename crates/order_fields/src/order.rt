@@ -14,7 +14,7 @@ use session_core::lookup::text_in;
 use session_core::{Request, first_failed};
 use std::alloc::Global;
 use venue_words::{
-    BoxedTerms, Bytes, Command, Config, Id, Kind, NoMemory, RefusedRequest, Report, Rule,
+    BoxedId, BoxedTerms, Bytes, Command, Config, Id, Kind, NoMemory, RefusedRequest, Report, Rule,
 };
 
 /// Why a message does not reach a book. Nothing is changed by it.
@@ -58,12 +58,12 @@ pub fn command_of(
         MessageType::CancelRequest => Ok(Command::Cancel {
             member,
             id,
-            orig: id_in(alloc, ORIG_CL_ORD_ID, fields)?,
+            orig: BoxedId::new(alloc, id_in(alloc, ORIG_CL_ORD_ID, fields)?)?,
         }),
         MessageType::ReplaceRequest => Ok(Command::Replace {
             member,
             id,
-            orig: id_in(alloc, ORIG_CL_ORD_ID, fields)?,
+            orig: BoxedId::new(alloc, id_in(alloc, ORIG_CL_ORD_ID, fields)?)?,
             terms: BoxedTerms::new(alloc, terms_of(fields))?,
         }),
         _ => Ok(Command::Status {

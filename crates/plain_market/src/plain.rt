@@ -130,11 +130,11 @@ impl Plain {
                 self.on_new(asked, id, &terms.get(), broken)
             }
             Command::Cancel { member, id, orig } => {
-                let live = self.live(alloc, *member, orig)?;
+                let live = self.live(alloc, *member, orig.get())?;
                 let used = is_used(*member, id.as_slice(), &self.used);
                 let broken = verdict(command, &known_of(tick, used, &live));
                 let asked = Asked::new(alloc, tick, event, *member);
-                self.on_cancel(asked, id, orig, &live, broken)
+                self.on_cancel(asked, id, orig.get(), &live, broken)
             }
             Command::Replace {
                 member,
@@ -142,11 +142,11 @@ impl Plain {
                 orig,
                 terms,
             } => {
-                let live = self.live(alloc, *member, orig)?;
+                let live = self.live(alloc, *member, orig.get())?;
                 let used = is_used(*member, id.as_slice(), &self.used);
                 let broken = verdict(command, &known_of(tick, used, &live));
                 let asked = Asked::new(alloc, tick, event, *member);
-                self.on_replace(asked, id, orig, &terms.get(), &live, broken)
+                self.on_replace(asked, id, orig.get(), &terms.get(), &live, broken)
             }
             Command::Status { member, id, side } => self.on_status(alloc, *member, id, *side),
         }

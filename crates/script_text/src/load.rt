@@ -6,6 +6,9 @@ use fix_write::digits::push_number;
 use std::alloc::Global;
 use venue_words::NoMemory;
 
+/// Room for each line, so that none grows while it is made.
+const LINE_BYTES: usize = 160;
+
 /// A line that is always the same.
 fn fixed(alloc: Global, line: &[u8]) -> Result<Vec<u8>, NoMemory>
     ensures { IfOk result (λ copy. copy.items ≡ line.now) }
@@ -39,7 +42,7 @@ fn order_front(alloc: Global, id: u64) -> Result<Vec<u8>, NoMemory>
     requires { id < 2 ^ 33 }
     ensures { IfOk result (λ line. line.items ≡ order_front id) }
 {
-    let mut line = Vec::new(alloc);
+    let mut line = Vec::with_capacity(alloc, LINE_BYTES)?;
     line.extend_from_slice(b"M A 35=D|49=A|56=PEGV|34=")?;
     push_number(&mut line, id + 1)?;
     line.extend_from_slice(b"|52=20240102-14:30:00|11=")?;

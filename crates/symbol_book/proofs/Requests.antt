@@ -17,7 +17,7 @@ use Rattle.eager_meaning.specs.State.{State, Outcome, resting, with_notice, with
 use Rattle.eager_meaning.specs.Step.{outcome_of, on_status}
 use Rattle.eager_meaning.specs.Verdict.{verdict}
 use Rattle.eager_meaning.specs.Work.{examined}
-use Rattle.symbol_book.specs.declared.room.Room.{Room}
+use Rattle.symbol_book.specs.declared.room.Copies.{Copies}
 use Rattle.symbol_book.specs.Changes.{with_id, ids_after, entered_by_replace, examined_by_replace}
 use Rattle.symbol_book.specs.Ids.{UsedId}
 use Rattle.symbol_book.specs.Log.{Reports}
@@ -29,7 +29,7 @@ use Rattle.symbol_book.proofs.Rules.{cancel_fresh, replace_fresh}
 nothing : (event : Event) (before : List Report) → Reports event before 1 [] before 1
 nothing event before = record { all = λ rest. refl }
 
-module _ (tick : ℕ) (event : Event) (member : ℕ) (id orig : List ℕ) (room : Room) (s : State) (own : CopiesOwn member id room) (names : CopiesOrig member orig room) where
+module _ (tick : ℕ) (event : Event) (member : ℕ) (id orig : List ℕ) (room : Copies) (s : State) (own : CopiesOwn member id room) (names : CopiesOrig member orig room) where
   -- the live order that the room's copy names is the one that the command names
   pub live_is : (live : Option Live) → live_named room.orig.member room.orig.id s.orders (resting s) ≡ live → live_named member orig s.orders (resting s) ≡ live
   live_is live is =
@@ -168,12 +168,12 @@ pub replace_enters : (tick event member : ℕ) (id orig : List ℕ) (terms : Ter
 replace_enters tick event member id orig terms live s e = rw e refl
 
 -- a status request, by the copy of its id
-pub status_command : (command : Command) (room : Room) (member : ℕ) (id : List ℕ) (side : ℕ) → IsRoomFor command room → command ≡ Status member id side → command ≡ Status room.orig.member room.orig.id side
+pub status_command : (command : Command) (room : Copies) (member : ℕ) (id : List ℕ) (side : ℕ) → IsRoomFor command room → command ≡ Status member id side → command ≡ Status room.orig.member room.orig.id side
 status_command command room member id side holds is =
     let copies : CopiesOrig member id room = subst (λ (x : Command). IsRoomFor x room) is holds in
     rw (copies.owner, copies.orig) is
 
-pub status_done : (tick : ℕ) (event : Event) (side : ℕ) (room : Room) (s : State) (entered : List (Option Row)) (entries : List UsedId) (before after : List Report) (place : ℕ) → event.command ≡ Status room.orig.member room.orig.id side
+pub status_done : (tick : ℕ) (event : Event) (side : ℕ) (room : Copies) (s : State) (entered : List (Option Row)) (entries : List UsedId) (before after : List Report) (place : ℕ) → event.command ≡ Status room.orig.member room.orig.id side
     → Reports event before 1 (on_status room.orig.member room.orig.id side s).notices after place → IsWorked tick event s entered entries before s entered entries after place
 unfolding outcome_of on_status ids_after
 status_done tick event side room s entered entries before after place command told =

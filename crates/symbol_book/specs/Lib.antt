@@ -2,6 +2,8 @@ pub mod Book
 pub mod Buffers
 pub mod Changes
 pub mod Commands
+pub mod Copies
+pub mod Entered
 pub mod Finding
 pub mod Fitting
 pub mod Growing

@@ -17,11 +17,12 @@ ghost use Rattle.symbol_book.specs.Orders.{IsSmall};
 ghost use Rattle.symbol_book.specs.Parts.{Agree, AreWorked, HasRoom, resting_in, state_in};
 ghost use Rattle.symbol_book.specs.Room.{CopiesOwn};
 
+use crate::entered_row::EnteredRow;
 use crate::entering::{enter, entering_row, price_now};
 use crate::ids::{ClOrdId, UsedIds};
 use crate::log::ReportLog;
 use crate::parts::Parts;
-use crate::room::Room;
+use crate::room::Copies;
 use crate::showing::view_at;
 use eager_meaning::{
     Known, Order, is_immediate, is_pegged, limit_of, quantity_of, side_of, verdict,
@@ -51,10 +52,15 @@ fn accepted_order(tick: u32, event: u32, member: u32, id: Id, terms: &Terms) -> 
 }
 
 /// The row that is kept of an order as it enters: none of one that stays only to trade at once.
-pub fn kept_row(immediate: bool, row: Row) -> Option<Row>
+pub fn kept_row(immediate: bool, row: Row) -> EnteredRow
+    requires { IsTick row.key.grid }
     ensures { result ≡ if_it_rests immediate row }
 {
-    if immediate { None } else { Some(row) }
+    if immediate {
+        EnteredRow::none()
+    } else {
+        EnteredRow::of(row)
+    }
 }
 
 /// An order is accepted and enters.
@@ -64,7 +70,7 @@ fn accept<E: Engine + Drop, L: Ledger>(
     parts: &mut Parts<E>,
     event: &Event,
     terms: &Terms,
-    room: Room,
+    room: Copies,
     steps: &mut Steps<L>,
 ) -> u32
     requires tick { IsTick tick }
@@ -94,7 +100,7 @@ fn accept<E: Engine + Drop, L: Ledger>(
     ensures best { E.best parts.new.engine ≡ E.best parts.old.engine }
     ensures latest { E.latest parts.new.engine ≡ event.now.number }
 {
-    let Room {
+    let Copies {
         own,
         order: copy,
         shown,
@@ -170,7 +176,7 @@ pub fn on_new<E: Engine + Drop, L: Ledger>(
     parts: &mut Parts<E>,
     event: &Event,
     terms: &Terms,
-    room: Room,
+    room: Copies,
     steps: &mut Steps<L>,
 ) -> u32
     requires tick { IsTick tick }

@@ -12,10 +12,11 @@ ghost use Rattle.symbol_book.specs.Log.{Reports};
 ghost use Rattle.symbol_book.specs.Parts.{Agree, AreWorked, HasRoom, resting_in, rows_in, state_in};
 ghost use Rattle.symbol_book.specs.Room.{CopiesOwn};
 
+use crate::entered_row::EnteredRow;
 use crate::finding::{Found, find_named};
 use crate::parts::Parts;
 use crate::refusing::{refuse, rule_of_request};
-use crate::room::Room;
+use crate::room::Copies;
 use crate::showing::view_closed;
 use match_core::Engine;
 use std::sync::ledger::Ledger;
@@ -26,7 +27,7 @@ use venue_words::{Event, Execution, Kind, RefusedRequest, Steps};
 fn cancel<E: Engine + Drop, L: Ledger>(
     parts: &mut Parts<E>,
     event: &Event,
-    room: Room,
+    room: Copies,
     found: Found,
     steps: &mut Steps<L>,
 ) -> u32
@@ -50,7 +51,7 @@ fn cancel<E: Engine + Drop, L: Ledger>(
     ensures best { E.best parts.new.engine ≡ E.best parts.old.engine }
     ensures latest { E.latest parts.new.engine ≡ E.latest parts.old.engine }
 {
-    let Room {
+    let Copies {
         own,
         order: _,
         shown,
@@ -60,7 +61,7 @@ fn cancel<E: Engine + Drop, L: Ledger>(
     let order = &parts.orders[found.number as usize];
     let view = view_closed(order, shown);
     parts.engine.cut(&found.row, steps);
-    parts.entered[found.number as usize] = None;
+    parts.entered[found.number as usize] = EnteredRow::none();
     parts.ids.push(own, found.number);
     let execution = Execution::Canceled {
         orig: Some(orig.id),
@@ -75,7 +76,7 @@ pub fn on_cancel<E: Engine + Drop, L: Ledger>(
     tick: u32,
     parts: &mut Parts<E>,
     event: &Event,
-    room: Room,
+    room: Copies,
     steps: &mut Steps<L>,
 ) -> u32
     requires tick { IsTick tick }

@@ -7,9 +7,10 @@ ghost use Rattle.symbol_book.specs.Ids.{NameOrders, named_at};
 ghost use Rattle.symbol_book.specs.Parts.{Agree, rows_in};
 ghost use Rattle.symbol_book.specs.Rows.{AreEntered};
 
+use crate::entered_row::EnteredRow;
 use crate::ids::{ClOrdId, UsedIds};
 use crate::parts::Parts;
-use crate::room::Room;
+use crate::room::Copies;
 use eager_meaning::Order;
 use match_core::Engine;
 use venue_words::Row;
@@ -59,26 +60,21 @@ pub fn number_of(ids: &UsedIds, orders: &[Order], id: &ClOrdId) -> Option<u32>
 }
 
 /// The row with which an order entered, while the order is live.
-pub fn live_row(orders: &[Order], entered: &[Option<Row>], number: u32) -> Option<Row>
+pub fn live_row(orders: &[Order], entered: &[EnteredRow], number: u32) -> Option<Row>
     requires here { number < length orders.now }
     requires count { length entered.now ≡ length orders.now }
     ensures { IsRowIfLive orders.now entered.now number result }
 {
     let order = &orders[number as usize];
     if order.cum < order.quantity {
-        entered[number as usize]
+        entered[number as usize].get()
     } else {
         None
     }
 }
 
 /// The member's live order that has this id at present.
-fn find_live(
-    ids: &UsedIds,
-    orders: &[Order],
-    entered: &[Option<Row>],
-    id: &ClOrdId,
-) -> Option<Found>
+fn find_live(ids: &UsedIds, orders: &[Order], entered: &[EnteredRow], id: &ClOrdId) -> Option<Found>
     requires named { NameOrders ids.now.entries orders.now }
     requires count { length entered.now ≡ length orders.now }
     ensures here { IfSome result (λ found. found.number < length orders.now) }
@@ -95,7 +91,7 @@ fn find_live(
 }
 
 /// The live order that a Cancel or a Replace names, by the copy of its id.
-pub fn find_named<E: Engine + Drop>(parts: &Parts<E>, room: &Room) -> Option<Found>
+pub fn find_named<E: Engine + Drop>(parts: &Parts<E>, room: &Copies) -> Option<Found>
     requires { Agree E.buys E.sells E.best parts.now }
     ensures here { IfSome result (λ found. found.number < length parts.now.orders.items) }
     ensures live { IsFound parts.now.orders.items (rows_in E.buys E.sells parts.now) (live_named room.now.orig.member

@@ -8,6 +8,7 @@ ghost use Rattle.eager_meaning.specs.Showing.{row_of_order};
 ghost use Rattle.market_laws.specs.Standing.{row_by_now};
 ghost use Rattle.symbol_book.specs.Rows.{AreEntered};
 
+use crate::entered_row::EnteredRow;
 use crate::finding::live_row;
 use eager_meaning::Order;
 use match_core::Engine;
@@ -41,7 +42,7 @@ fn priced_as(row: Row, price: Option<u32>, time: u32) -> Priced
 pub fn resting_row<E: Engine, L: Ledger>(
     engine: &E,
     orders: &[Order],
-    entered: &[Option<Row>],
+    entered: &[EnteredRow],
     number: u32,
     steps: &mut Steps<L>,
 ) -> Option<Priced>

@@ -9,7 +9,7 @@ ghost use Rattle.eager_meaning.specs.Terms.{quantity_of};
 ghost use Rattle.eager_meaning.specs.Trades.{order_after, orders_after};
 ghost use Rattle.symbol_book.specs.Orders.{HasIdWithin, HasLeft, IsSmall};
 
-use crate::id_buffers::IdBuffers;
+use crate::id_copies::IdCopies;
 use eager_meaning::{Fill, Order, is_pegged, limit_of, quantity_of};
 use std::alloc::{AllocError, Global};
 use std::marker::Model;
@@ -20,7 +20,7 @@ use venue_words::{Id, Terms};
 #[derive(Drop)]
 pub struct Orders {
     list: Vec<Order>,
-    buffers: IdBuffers,
+    copies: IdCopies,
 }
 
 impl Model for Orders {
@@ -33,11 +33,11 @@ impl Model for Orders {
     ghost view = { λ o. record {
       items = o.list.items;
       room = vec_capacity o.list - vec_len o.list;
-      copies = o.buffers.count;
-      longest = o.buffers.longest;
+      copies = o.copies.count;
+      longest = o.copies.longest;
     } };
 
-    ghost invariant = { λ o. All (HasIdWithin o.buffers.longest) o.list.items };
+    ghost invariant = { λ o. All (HasIdWithin o.copies.longest) o.list.items };
 }
 
 impl DerefSlice for Orders {
@@ -57,7 +57,7 @@ impl Orders {
     {
         Orders {
             list: Vec::new(alloc),
-            buffers: IdBuffers::new(alloc),
+            copies: IdCopies::new(alloc),
         }
     }
 
@@ -75,7 +75,7 @@ impl Orders {
         ensures room { self.new.room ≡ self.old.room }
         ensures longest { bytes ≤ self.new.longest }
     {
-        self.buffers.allow(bytes);
+        self.copies.allow(bytes);
     }
 
     /// Makes room for one more order, with an id of so many bytes, and for so many copies of ids.
@@ -88,7 +88,7 @@ impl Orders {
     {
         self.list.reserve(1)?;
         self.allow(bytes);
-        self.buffers.fill(alloc, copies)
+        self.copies.fill(alloc, copies)
     }
 
     /// One more order.
@@ -97,6 +97,7 @@ impl Orders {
         requires id { length order.id ≤ self.old.longest }
         ensures items { self.new.items ≡ self.old.items ++ order ∷ [] }
         ensures copies { self.new.copies ≡ self.old.copies }
+        ensures longest { self.new.longest ≡ self.old.longest }
     {
         self.list.push_reserved(order);
     }
@@ -108,9 +109,10 @@ impl Orders {
         ensures copy { (order : Order) → result ≡ (slice_index_or self.old.items number order).id }
         ensures items { self.new.items ≡ self.old.items }
         ensures copies { self.new.copies + 1 ≡ self.old.copies }
+        ensures longest { self.new.longest ≡ self.old.longest }
     {
         let order = &self.list[number as usize];
-        self.buffers.copy(&order.id)
+        self.copies.copy(&order.id)
     }
 
     /// A trade is added to both of its orders.
@@ -123,6 +125,7 @@ impl Orders {
         ensures small { All IsSmall self.new.items }
         ensures count { length self.new.items ≡ length self.old.items }
         ensures copies { self.new.copies ≡ self.old.copies }
+        ensures longest { self.new.longest ≡ self.old.longest }
     {
         add_trade(&mut self.list, fill.taker.order, fill);
         add_trade(&mut self.list, fill.contra.order, fill);
@@ -139,6 +142,7 @@ impl Orders {
         ensures items { self.new.items ≡ changed_at (replaced_order tick id terms.now) number self.old.items }
         ensures small { All IsSmall self.new.items }
         ensures copies { self.new.copies ≡ self.old.copies }
+        ensures longest { self.new.longest ≡ self.old.longest }
     {
         set_terms(tick, &mut self.list, number, id, terms);
     }

@@ -1,10 +1,10 @@
 //! What a book keeps beside its journal.
+use crate::entered_row::EnteredRow;
 use crate::ids::UsedIds;
 use crate::log::ReportLog;
 use crate::orders::Orders;
 use best_prices::Markets;
 use match_core::Engine;
-use venue_words::Row;
 
 /// What a book keeps beside its journal.
 #[derive(Drop)]
@@ -13,7 +13,7 @@ pub struct Parts<E: Engine + Drop> {
     pub engine: E,
     pub orders: Orders,
     /// For each order the row with which it entered last, or none where it was canceled or may not rest.
-    pub entered: Vec<Option<Row>>,
+    pub entered: Vec<EnteredRow>,
     pub ids: UsedIds,
     pub log: ReportLog,
 }

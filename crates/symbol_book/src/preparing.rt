@@ -11,7 +11,7 @@ ghost use Rattle.symbol_book.specs.Room.{CopiesOwn, CopiesOrig, IsRoomFor};
 
 use crate::ids::ClOrdId;
 use crate::parts::Parts;
-use crate::room::Room;
+use crate::room::{Copies, Room};
 use eager_meaning::key_of;
 use match_core::Engine;
 use std::alloc::{AllocError, Global};
@@ -26,30 +26,30 @@ fn copies(alloc: Global, member: u32, id: &Id, orig: &Id) -> Result<Room, AllocE
     let order = id.copy(alloc)?;
     let shown = id.copy(alloc)?;
     let named = orig.copy(alloc)?;
-    Ok(Room {
+    let copies = Copies {
         own: ClOrdId { member, id: own },
         order,
         shown,
         orig: ClOrdId { member, id: named },
-    })
+    };
+    Room::of(alloc, copies)
 }
 
 /// The copies that a command wants.
 pub fn room_for(alloc: Global, command: &Command) -> Result<Room, AllocError>
     ensures { IfOk result (λ room. IsRoomFor command.now room) }
 {
-    let none = Id::short(&[]);
     match command {
-        Command::Quote { .. } => copies(alloc, 0, &none, &none),
-        Command::New { member, id, .. } => copies(alloc, *member, id, &none),
+        Command::Quote { .. } => Ok(Room::none()),
+        Command::New { member, id, .. } => copies(alloc, *member, id, &Id::short(&[])),
         Command::Cancel { member, id, orig }
         | Command::Replace {
             member,
             id,
             orig,
             ..
-        } => copies(alloc, *member, id, orig),
-        Command::Status { member, id, .. } => copies(alloc, *member, &none, id),
+        } => copies(alloc, *member, id, orig.get()),
+        Command::Status { member, id, .. } => copies(alloc, *member, &Id::short(&[]), id),
     }
 }
 

@@ -12,7 +12,7 @@ ghost use Rattle.symbol_book.specs.Log.{Reports};
 
 use crate::finding::Found;
 use crate::parts::Parts;
-use crate::room::Room;
+use crate::room::Copies;
 use eager_meaning::{Known, Order, verdict};
 use match_core::Engine;
 use venue_words::{Event, Kind, NamedOrder, OrderStatus, RefusedRequest, Rule, Side};
@@ -50,7 +50,7 @@ fn known_of(tick: u32, used: bool, live: Option<Found>, orders: &[Order]) -> Kno
 pub fn rule_of_request<E: Engine + Drop>(
     tick: u32,
     parts: &Parts<E>,
-    room: &Room,
+    room: &Copies,
     live: Option<Found>,
     event: &Event,
 ) -> Option<Rule>
@@ -70,7 +70,7 @@ pub fn refuse<E: Engine + Drop>(
     parts: &mut Parts<E>,
     event: &Event,
     request: RefusedRequest,
-    room: Room,
+    room: Copies,
     live: Option<Found>,
     rule: Rule,
 ) -> u32

@@ -26,7 +26,7 @@ use crate::entering::{enter, entering_row, price_now};
 use crate::finding::{Found, find_named};
 use crate::parts::Parts;
 use crate::refusing::{refuse, rule_of_request};
-use crate::room::Room;
+use crate::room::Copies;
 use crate::showing::view_at;
 use eager_meaning::{Order, is_immediate, quantity_of, row_of};
 use match_core::Engine;
@@ -36,7 +36,7 @@ use venue_words::{Event, Execution, Kind, Method, RefusedRequest, Row, Steps, Te
 /// The live order that a Replace names, and the copies of the request's ids.
 struct Named {
     found: Found,
-    room: Room,
+    room: Copies,
 }
 
 /// Whether two orders meet their minimums in the same way.
@@ -117,7 +117,7 @@ fn resize<E: Engine + Drop, L: Ledger>(
     ensures latest { E.latest parts.new.engine ≡ E.latest parts.old.engine }
 {
     let Named { found, room } = named;
-    let Room {
+    let Copies {
         own,
         order: copy,
         shown,
@@ -189,7 +189,7 @@ fn reenter<E: Engine + Drop, L: Ledger>(
     ensures latest { E.latest parts.new.engine ≡ event.now.number }
 {
     let Named { found, room } = named;
-    let Room {
+    let Copies {
         own,
         order: copy,
         shown,
@@ -282,7 +282,7 @@ pub fn on_replace<E: Engine + Drop, L: Ledger>(
     parts: &mut Parts<E>,
     event: &Event,
     terms: &Terms,
-    room: Room,
+    room: Copies,
     steps: &mut Steps<L>,
 ) -> u32
     requires tick { IsTick tick }

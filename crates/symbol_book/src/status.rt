@@ -7,20 +7,21 @@ ghost use Rattle.symbol_book.specs.Log.{Reports};
 ghost use Rattle.symbol_book.specs.Parts.{Agree, HasRoom, resting_in, state_in};
 ghost use Rattle.symbol_book.specs.Rows.{AreEntered};
 
+use crate::entered_row::EnteredRow;
 use crate::finding::{live_row, number_of};
 use crate::parts::Parts;
-use crate::room::Room;
+use crate::room::Copies;
 use crate::showing::{view_at, view_closed};
 use eager_meaning::Order;
 use match_core::Engine;
 use std::sync::ledger::Ledger;
-use venue_words::{Event, Execution, Id, Kind, Row, Steps, View};
+use venue_words::{Event, Execution, Id, Kind, Steps, View};
 
 /// An order as it is now, live or not.
 fn view_now<E: Engine, L: Ledger>(
     engine: &E,
     orders: &[Order],
-    entered: &[Option<Row>],
+    entered: &[EnteredRow],
     number: u32,
     id: Id,
     steps: &mut Steps<L>,
@@ -48,7 +49,7 @@ pub fn on_status<E: Engine + Drop, L: Ledger>(
     parts: &mut Parts<E>,
     event: &Event,
     side: u8,
-    room: Room,
+    room: Copies,
     steps: &mut Steps<L>,
 ) -> u32
     requires agree { Agree E.buys E.sells E.best parts.old }

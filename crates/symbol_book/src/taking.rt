@@ -32,7 +32,7 @@ pub fn takes_command(markets: usize, command: &Command) -> bool
         }
         Command::New { id, .. } => fits_id(id),
         Command::Cancel { id, orig, .. } | Command::Replace { id, orig, .. } => {
-            fits_id(id) && fits_id(orig)
+            fits_id(id) && fits_id(orig.get())
         }
         Command::Status { id, .. } => fits_id(id),
     }

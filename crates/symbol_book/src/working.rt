@@ -55,9 +55,23 @@ pub fn work<E: Engine + Drop, L: Ledger>(
             };
             on_quote(parts, event, *market, quote, steps)
         }
-        Command::New { terms, .. } => on_new(tick, parts, event, &terms.get(), room, steps),
-        Command::Cancel { .. } => on_cancel(tick, parts, event, room, steps),
-        Command::Replace { terms, .. } => on_replace(tick, parts, event, &terms.get(), room, steps),
-        Command::Status { side, .. } => on_status(parts, event, *side, room, steps),
+        Command::New { terms, .. } => on_new(
+            tick,
+            parts,
+            event,
+            &terms.get(),
+            room.copies(),
+            steps,
+        ),
+        Command::Cancel { .. } => on_cancel(tick, parts, event, room.copies(), steps),
+        Command::Replace { terms, .. } => on_replace(
+            tick,
+            parts,
+            event,
+            &terms.get(),
+            room.copies(),
+            steps,
+        ),
+        Command::Status { side, .. } => on_status(parts, event, *side, room.copies(), steps),
     }
 }

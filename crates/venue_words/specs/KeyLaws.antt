@@ -20,16 +20,16 @@ use Rattle.venue_words.specs.contracts.row.KeyPartialEq.TheImpl.{eq-value}
 
 pub key_true : (a b : Key) → eq-value.it a b ≡ true → a ≡ b
 key_true a b h =
-    let k : (sameb side.the_type a.side b.side && (sameb reference.the_type a.reference b.reference && (int_eq a.offset b.offset && (sameb rounding.the_type a.rounding b.rounding && nat_eq a.grid b.grid)))) ≡ true = h in
+    let k : (int_eq a.offset b.offset && (nat_eq a.grid b.grid && (sameb side.the_type a.side b.side && (sameb reference.the_type a.reference b.reference && sameb rounding.the_type a.rounding b.rounding)))) ≡ true = h in
     let p = and_parts _ _ k in
     let q = and_parts _ _ p.1 in
     let r = and_parts _ _ q.1 in
     let s = and_parts _ _ r.1 in
-    let side_is : a.side ≡ b.side = same_true side.the_type (search rules) _ _ p.0 in
-    let reference_is : a.reference ≡ b.reference = same_true reference.the_type (search rules) _ _ q.0 in
-    let offset_is : a.offset ≡ b.offset = (Decides-int_eq _ _).0 r.0 in
-    let rounding_is : a.rounding ≡ b.rounding = same_true rounding.the_type (search rules) _ _ s.0 in
-    let grid_is : a.grid ≡ b.grid = eqb-true _ _ s.1 in
+    let offset_is : a.offset ≡ b.offset = (Decides-int_eq _ _).0 p.0 in
+    let grid_is : a.grid ≡ b.grid = eqb-true _ _ q.0 in
+    let side_is : a.side ≡ b.side = same_true side.the_type (search rules) _ _ r.0 in
+    let reference_is : a.reference ≡ b.reference = same_true reference.the_type (search rules) _ _ s.0 in
+    let rounding_is : a.rounding ≡ b.rounding = same_true rounding.the_type (search rules) _ _ s.1 in
     λ i. record { side = side_is i; reference = reference_is i; offset = offset_is i; rounding = rounding_is i; grid = grid_is i }
 
 pub key_same : (a : Key) → eq-value.it a a ≡ true
@@ -73,15 +73,15 @@ same_rounding Passive Passive e = refl
 -- keys that agree in each part are equal
 pub same_key-equal : (a b : Key) → same_key a b ≡ true → a ≡ b
 same_key-equal a b h =
-    let p = and_parts (side_number a.side == side_number b.side) _ h in
-    let q = and_parts (reference_number a.reference == reference_number b.reference) _ p.1 in
-    let r = and_parts (int_eq a.offset b.offset) _ q.1 in
-    let s = and_parts (rounding_number a.rounding == rounding_number b.rounding) _ r.1 in
-    let side_is : a.side ≡ b.side = same_side a.side b.side p.0 in
-    let reference_is : a.reference ≡ b.reference = same_reference a.reference b.reference q.0 in
-    let offset_is : a.offset ≡ b.offset = (Decides-int_eq _ _).0 r.0 in
-    let rounding_is : a.rounding ≡ b.rounding = same_rounding a.rounding b.rounding s.0 in
-    let grid_is : a.grid ≡ b.grid = eqb-true _ _ s.1 in
+    let p = and_parts (int_eq a.offset b.offset) _ h in
+    let q = and_parts (a.grid == b.grid) _ p.1 in
+    let r = and_parts (side_number a.side == side_number b.side) _ q.1 in
+    let s = and_parts (reference_number a.reference == reference_number b.reference) _ r.1 in
+    let offset_is : a.offset ≡ b.offset = (Decides-int_eq _ _).0 p.0 in
+    let grid_is : a.grid ≡ b.grid = eqb-true _ _ q.0 in
+    let side_is : a.side ≡ b.side = same_side a.side b.side r.0 in
+    let reference_is : a.reference ≡ b.reference = same_reference a.reference b.reference s.0 in
+    let rounding_is : a.rounding ≡ b.rounding = same_rounding a.rounding b.rounding s.1 in
     λ i. record { side = side_is i; reference = reference_is i; offset = offset_is i; rounding = rounding_is i; grid = grid_is i }
 
 -- a key agrees with itself

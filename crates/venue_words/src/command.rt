@@ -1,7 +1,7 @@
 //! What feeds and members ask of a symbol's book.
 ghost use Rattle.std.specs.Prelude.{◌≡◌, IfOk};
 
-use crate::id::Id;
+use crate::id::{BoxedId, Id};
 use crate::terms::BoxedTerms;
 use std::alloc::{AllocError, Global};
 
@@ -24,13 +24,13 @@ pub enum Command {
     Cancel {
         member: u32,
         id: Id,
-        orig: Id,
+        orig: BoxedId,
     },
     /// OrderCancelReplaceRequest (35=G).
     Replace {
         member: u32,
         id: Id,
-        orig: Id,
+        orig: BoxedId,
         terms: BoxedTerms,
     },
     /// OrderStatusRequest (35=H). `side` is the byte of Side(54) as it was received.

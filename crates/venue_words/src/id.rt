@@ -93,6 +93,41 @@ impl Id {
     }
 }
 
+/// An id on the heap, so that a command is small. Contracts see the id.
+#[derive(Debug, Drop)]
+pub struct BoxedId(Box<Id>);
+
+impl Model for BoxedId {
+    ghost use Rattle.std.specs.Prelude.{List, ℕ};
+
+    ghost Value = { List ℕ };
+
+    ghost view = { λ b. b.0.value };
+}
+
+impl BoxedId {
+    /// This id, on the heap.
+    pub fn new(alloc: Global, id: Id) -> Result<BoxedId, AllocError>
+        ensures { IfOk result (λ boxed. boxed ≡ id) }
+    {
+        Ok(BoxedId(Box::new(alloc, id)?))
+    }
+
+    /// The same id once more, on the heap too.
+    pub fn copy(&self, alloc: Global) -> Result<BoxedId, AllocError>
+        ensures { IfOk result (λ copy. copy ≡ self.now) }
+    {
+        BoxedId::new(alloc, self.0.copy(alloc)?)
+    }
+
+    /// The id.
+    pub fn get(&self) -> &Id
+        ensures { result.now ≡ self.now }
+    {
+        self.0.as_ref()
+    }
+}
+
 impl PartialEq for Id {
     ghost eq = { pointwise nat_eq };
 

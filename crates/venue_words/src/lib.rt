@@ -23,7 +23,7 @@ pub use command::{Command, Event};
 pub use config::Config;
 pub use floor::Floor;
 pub use held::Held;
-pub use id::{Id, SHORT_ID_BYTES};
+pub use id::{BoxedId, Id, SHORT_ID_BYTES};
 pub use items::Items;
 pub use price::{Best, PRICE_END, Side, price_of, value};
 pub use refusal::{FloorRefusal, NoMemory};

@@ -47,23 +47,23 @@ pub struct LiveOrder {
 /// An order as a report shows it. Prices are in units of 0.005.
 #[derive(Debug, Drop)]
 pub struct View {
-    /// The number of the event of its New, from which OrderID(37) is made.
-    pub first: u32,
     /// ClOrdID(11).
     pub id: Id,
-    pub side: Side,
-    /// OrderQty(38) in shares.
-    pub quantity: u32,
-    /// Whether it is pegged (40=P) and not a limit order (40=2).
-    pub pegged: bool,
-    /// Price(44), where it has a limit.
-    pub limit: Option<u32>,
-    /// CumQty(14): the shares that it has traded.
-    pub cum: u32,
     /// The sum of price times quantity over its trades, from which AvgPx(6) is made.
     pub notional: u64,
+    /// The number of the event of its New, from which OrderID(37) is made.
+    pub first: u32,
+    /// OrderQty(38) in shares.
+    pub quantity: u32,
+    /// CumQty(14): the shares that it has traded.
+    pub cum: u32,
+    /// Price(44), where it has a limit.
+    pub limit: Option<u32>,
     /// Its leaves, price and time; none where it has left.
     pub live: Option<LiveOrder>,
+    pub side: Side,
+    /// Whether it is pegged (40=P) and not a limit order (40=2).
+    pub pegged: bool,
 }
 
 impl View {

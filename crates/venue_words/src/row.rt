@@ -41,13 +41,13 @@ pub enum Method {
 /// What the peg price of an order depends on, beside the national quote. Orders of one key move together.
 #[derive(Clone, Copy, Debug, PartialEq, Eq, Hash)]
 pub struct Key {
-    pub side: Side,
-    pub reference: Reference,
     /// In units of 0.005, added to the price of a buy and of a sell alike.
     pub offset: i32,
-    pub rounding: Rounding,
     /// The symbol's tick in units of 0.005: 2 or 10.
     pub grid: u32,
+    pub side: Side,
+    pub reference: Reference,
+    pub rounding: Rounding,
 }
 
 /// Whether two keys agree in each part.

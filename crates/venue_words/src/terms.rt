@@ -1,9 +1,10 @@
 //! The terms of orders.
-ghost use Rattle.std.specs.Prelude.{◌≡◌, IfOk};
-ghost use Rattle.venue_words.specs.OrderTerms.{amount_if};
+ghost use Rattle.std.specs.Prelude.{◌≡◌, IfOk, IfSome, is_some};
+ghost use Rattle.venue_words.specs.OrderTerms.{amount_if, unpacked};
 
 use std::alloc::{AllocError, Global};
 use std::marker::Model;
+use std::mem::size_of;
 
 /// The fields of a new or replacing order as they were received, before any rule is tested.
 /// An amount counts units of 10^-8, so that 100 shares are 10,000,000,000.
@@ -35,41 +36,97 @@ pub struct Terms {
     pub round: Option<u32>,
 }
 
-/// Terms as they are kept: an amount that is not there takes the place of one that is, and no more.
+/// Terms as they are kept: an amount that is not there takes the place of one that is, and no more. Those that sensible orders
+/// have lie close together, and what is larger is kept as it is.
 #[derive(Debug, Drop)]
-struct Packed {
-    quantity: i128,
-    price: i128,
-    minimum: i128,
-    offset: i128,
-    method: Option<u32>,
-    peg: Option<u32>,
-    offset_kind: Option<u32>,
-    moves: Option<u32>,
-    round: Option<u32>,
-    side: u8,
-    kind: u8,
-    force: Option<u8>,
-    has_price: bool,
-    has_minimum: bool,
-    has_offset: bool,
+enum Packed {
+    Usual {
+        side: u8,
+        kind: u8,
+        force: Option<u8>,
+        has_price: bool,
+        has_minimum: bool,
+        has_offset: bool,
+        quantity: i64,
+        price: i64,
+        minimum: i64,
+        offset: i64,
+        method: Option<u8>,
+        peg: Option<u8>,
+        offset_kind: Option<u8>,
+        moves: Option<u8>,
+        round: Option<u8>,
+    },
+    Wide(Box<Terms>),
 }
+
+const _: () = prove!(size_of::<Packed>() == 56);
 
 /// An amount where it is there.
-fn amount_if(there: bool, amount: i128) -> Option<i128>
+fn amount_if(there: bool, amount: i64) -> Option<i128>
     ensures { result ≡ amount_if there amount }
 {
-    if there { Some(amount) } else { None }
+    if there {
+        Some(i128::from(amount))
+    } else {
+        None
+    }
 }
 
-/// Whether an amount is there, and which.
-fn parts_of(amount: Option<i128>) -> (bool, i128)
-    ensures { amount_if result.0 result.1 ≡ amount }
+/// A code of one byte as a number.
+fn code_of(code: Option<u8>) -> Option<u32>
+    ensures { result ≡ code }
+{
+    match code {
+        Some(code) => Some(u32::from(code)),
+        None => None,
+    }
+}
+
+/// An amount that is there as one of 64 bits, and one that is not as 0; none where it is larger.
+fn small_amount(amount: Option<i128>) -> Option<i64>
+    ensures { IfSome result (λ small. amount_if (is_some amount) small ≡ amount) }
 {
     match amount {
-        Some(amount) => (true, amount),
-        None => (false, 0),
+        Some(amount) => i64::try_from(amount).ok(),
+        None => Some(0),
     }
+}
+
+/// A number as a code of one byte; none where it is larger.
+fn small_code(code: Option<u32>) -> Option<Option<u8>>
+    ensures { IfSome result (λ small. small ≡ code) }
+{
+    match code {
+        Some(code) => match u8::try_from(code) {
+            Ok(code) => Some(Some(code)),
+            Err(_) => None,
+        },
+        None => Some(None),
+    }
+}
+
+/// Terms close together, where none of them is large.
+fn pack(terms: &Terms) -> Option<Packed>
+    ensures { IfSome result (λ packed. unpacked packed ≡ terms.now) }
+{
+    Some(Packed::Usual {
+        side: terms.side,
+        kind: terms.kind,
+        force: terms.force,
+        has_price: terms.price.is_some(),
+        has_minimum: terms.minimum.is_some(),
+        has_offset: terms.offset.is_some(),
+        quantity: i64::try_from(terms.quantity).ok()?,
+        price: small_amount(terms.price)?,
+        minimum: small_amount(terms.minimum)?,
+        offset: small_amount(terms.offset)?,
+        method: small_code(terms.method)?,
+        peg: small_code(terms.peg)?,
+        offset_kind: small_code(terms.offset_kind)?,
+        moves: small_code(terms.moves)?,
+        round: small_code(terms.round)?,
+    })
 }
 
 /// Terms on the heap, so that a command and its event are small. Contracts see the terms.
@@ -90,25 +147,9 @@ impl BoxedTerms {
     pub fn new(alloc: Global, terms: Terms) -> Result<BoxedTerms, AllocError>
         ensures { IfOk result (λ boxed. boxed ≡ terms) }
     {
-        let (has_price, price) = parts_of(terms.price);
-        let (has_minimum, minimum) = parts_of(terms.minimum);
-        let (has_offset, offset) = parts_of(terms.offset);
-        let packed = Packed {
-            quantity: terms.quantity,
-            price,
-            minimum,
-            offset,
-            method: terms.method,
-            peg: terms.peg,
-            offset_kind: terms.offset_kind,
-            moves: terms.moves,
-            round: terms.round,
-            side: terms.side,
-            kind: terms.kind,
-            force: terms.force,
-            has_price,
-            has_minimum,
-            has_offset,
+        let packed = match pack(&terms) {
+            Some(packed) => packed,
+            None => Packed::Wide(Box::new(alloc, terms)?),
         };
         Ok(BoxedTerms(Box::new(alloc, packed)?))
     }
@@ -117,20 +158,38 @@ impl BoxedTerms {
     pub fn get(&self) -> Terms
         ensures { result ≡ self.now }
     {
-        let packed = self.0.as_ref();
-        Terms {
-            side: packed.side,
-            quantity: packed.quantity,
-            kind: packed.kind,
-            price: amount_if(packed.has_price, packed.price),
-            force: packed.force,
-            minimum: amount_if(packed.has_minimum, packed.minimum),
-            method: packed.method,
-            peg: packed.peg,
-            offset: amount_if(packed.has_offset, packed.offset),
-            offset_kind: packed.offset_kind,
-            moves: packed.moves,
-            round: packed.round,
+        match self.0.as_ref() {
+            Packed::Wide(terms) => **terms,
+            Packed::Usual {
+                side,
+                kind,
+                force,
+                has_price,
+                has_minimum,
+                has_offset,
+                quantity,
+                price,
+                minimum,
+                offset,
+                method,
+                peg,
+                offset_kind,
+                moves,
+                round,
+            } => Terms {
+                side: *side,
+                quantity: i128::from(*quantity),
+                kind: *kind,
+                price: amount_if(*has_price, *price),
+                force: *force,
+                minimum: amount_if(*has_minimum, *minimum),
+                method: code_of(*method),
+                peg: code_of(*peg),
+                offset: amount_if(*has_offset, *offset),
+                offset_kind: code_of(*offset_kind),
+                moves: code_of(*moves),
+                round: code_of(*round),
+            },
         }
     }
 }

@@ -3,7 +3,7 @@ ghost use Rattle.std.specs.Prelude.{◌<◌};
 
 use super::orders::SHARE;
 use std::alloc::{AllocError, Global};
-use venue_words::{BoxedTerms, Command, Event, Id, Terms};
+use venue_words::{BoxedId, BoxedTerms, Command, Event, Id, Terms};
 
 /// One unit of price.
 const UNIT: i128 = 500_000;
@@ -165,11 +165,15 @@ fn request(alloc: Global, random: &mut Random, number: u32) -> Result<Command, A
     let orig = id_of(alloc, other)?;
     Ok(match kind {
         0..=4 => Command::New { member, id, terms },
-        5 => Command::Cancel { member, id, orig },
+        5 => Command::Cancel {
+            member,
+            id,
+            orig: BoxedId::new(alloc, orig)?,
+        },
         6 | 7 => Command::Replace {
             member,
             id,
-            orig,
+            orig: BoxedId::new(alloc, orig)?,
             terms,
         },
         _ => Command::Status {

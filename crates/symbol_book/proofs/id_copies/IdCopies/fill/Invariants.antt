@@ -1,6 +1,6 @@
 use Rattle.std.proofs.Common.{◌≡◌, ◌-◌, ◌≤◌, All, vec_len}
 use Rattle.symbol_book.specs.Buffers.{IsIdBuffer}
-use Rattle.symbol_book.proofs.id_buffers.IdBuffers.fill.Given as goal
+use Rattle.symbol_book.proofs.id_copies.IdCopies.fill.Given as goal
 
 -- the buffers are ready, and there are as many as before or more
 abbrev pub invariant-loop-alloc : goal.invariant-loop-alloc

@@ -7,13 +7,13 @@ use venue_words::{Id, SHORT_ID_BYTES};
 /// So many copies of ids that take no memory. That of a short id lies in its value; for longer ones there are buffers, made
 /// ahead, but only once longer ones are allowed. Contracts see how many copies, and of how many bytes.
 #[derive(Drop)]
-pub struct IdBuffers {
+pub struct IdCopies {
     buffers: Vec<Box<Vec<u8>>>,
     count: usize,
     long: bool,
 }
 
-impl Model for IdBuffers {
+impl Model for IdCopies {
     ghost use Rattle.std.specs.Prelude.{◌≡◌, ◌≤◌, true, All};
     ghost use Rattle.std.specs.Vec.{vec_len};
     ghost use Rattle.symbol_book.specs.Buffers.{IdRoom, IsIdBuffer, longest_id};
@@ -25,13 +25,17 @@ impl Model for IdBuffers {
     ghost invariant = { λ b. All IsIdBuffer b.buffers.items × (b.long ≡ true → b.count ≤ vec_len b.buffers) };
 }
 
-impl IdBuffers {
+impl IdCopies {
     ghost use Rattle.std.specs.Prelude.{◌≡◌, ◌+◌, ◌<◌, ◌≤◌, OnOk, length};
+    ghost use Rattle.venue_words.specs.declared.id.TheConstants.{SHORT_ID_BYTES};
     ghost use Rattle.venue_words.specs.declared.limits.TheConstants.{MAX_ID_BYTES};
 
     /// No copies, and of short ids alone.
-    pub fn new(alloc: Global) -> IdBuffers {
-        IdBuffers {
+    pub fn new(alloc: Global) -> IdCopies
+        ensures none { result.count ≡ 0 }
+        ensures short { result.longest ≡ SHORT_ID_BYTES }
+    {
+        IdCopies {
             buffers: Vec::new(alloc),
             count: 0,
             long: false,
