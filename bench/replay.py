@@ -3,7 +3,7 @@
 
 Run it at the top of the repository behind `./build`. Each PROGRAM (bin/pegreplay if none is named) works the same runs on
 the same machine, one after the other: a mixed script of a million lines, a load of pegged orders and quotes, and a wide script of
-200 members who trade 200 symbols. The next lines tell what a quote costs beside 2,000 and beside 200,000 resting orders: the time of a
+200 members who trade 200 symbols. The next lines tell what a quote costs over an empty book, and beside 2,000 and 200,000 resting orders: the time of a
 script with a million quotes, less that of the same script without them. Where several programs are named, the last lines tell how many times as long
 the first one takes as each other one.
 """
@@ -14,6 +14,7 @@ import tempfile
 import time
 
 QUOTES = 1_000_000
+ROUNDS = 7
 STAMP = "20240102-14:30:00"
 
 
@@ -80,16 +81,17 @@ def write_resting(path, orders, quotes):
             print("Q L M 10.01 10.03" if k % 2 == 0 else "Q L M 10.00 10.02", file=out)
 
 
-def quote_cost(program, folder, orders):
-    """The nanoseconds of a quote beside so many resting orders."""
-    times = []
+def quote_costs(programs, folder, orders):
+    """The nanoseconds of a quote beside so many resting orders, for each program: of rounds in which all programs take both scripts in turn, each
+    script's least time counts, since the speed of a machine may change between two runs."""
+    scripts = {}
     for quotes in [0, QUOTES]:
-        script = os.path.join(folder, f"resting{orders}-{quotes}.txt")
-        if not os.path.exists(script):
-            write_resting(script, orders, quotes)
-        seconds, _ = best_of(3, program, [script])
-        times.append(seconds)
-    return (times[1] - times[0]) / QUOTES * 1e9
+        scripts[quotes] = os.path.join(folder, f"resting{orders}-{quotes}.txt")
+        write_resting(scripts[quotes], orders, quotes)
+    rounds = [{(program, quotes): measure(program, [script])[0] for program in programs for quotes, script in scripts.items()}
+              for _ in range(ROUNDS)]
+    least = {key: min(times[key] for times in rounds) for key in rounds[0]}
+    return [(least[program, QUOTES] - least[program, 0]) / QUOTES * 1e9 for program in programs]
 
 
 def ratios(name, programs, seconds):
@@ -112,8 +114,8 @@ def main():
                 ("wide, 200 by 200", [wide], 20_200)]
         for name, words, events in runs:
             told.append((name, [report(program, name, words, events) for program in programs]))
-        for orders in [2_000, 200_000]:
-            costs = [quote_cost(program, folder, orders) for program in programs]
+        for orders in [0, 2_000, 200_000]:
+            costs = quote_costs(programs, folder, orders)
             for program, cost in zip(programs, costs):
                 print(f"{program:24} a quote beside {orders:>7,} resting orders: {cost:6.0f} ns")
             told.append((f"a quote beside {orders:,}", costs))

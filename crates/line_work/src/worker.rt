@@ -87,6 +87,7 @@ impl LineWorker {
     }
 
     /// The clock says a moment.
+    #[inline(never)]
     fn tick(&mut self, moment: i64, out: &mut Vec<u8>) -> Result<(), NoMemory>
         ensures stands { OnOk result ((state : FeedState) → StandsFor self.old state
             → StandsFor self.new (work_of_moment state moment).state) }
@@ -100,6 +101,7 @@ impl LineWorker {
     }
 
     /// A piece comes on a member's stream.
+    #[inline(never)]
     fn take<F: Floor, L: Ledger>(
         &mut self,
         floor: &mut F,
@@ -234,6 +236,7 @@ impl LineWorker {
     /// Sends a member his reports past the cursors, of the symbols that are asked, at the moment of the last line, where his
     /// session is up: they are appended, one frame in a line, and all cursors go on. After a refusal the member may have been sent
     /// what is not appended.
+    #[inline(never)]
     pub fn pull_news<F: Floor>(
         &mut self,
         floor: &mut F,

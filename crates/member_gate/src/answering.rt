@@ -46,6 +46,7 @@ fn answer_business(
 }
 
 /// Sends the report that answers an order of a symbol that is not configured.
+#[inline(never)]
 fn answer_stray(
     session: &mut Session,
     origin: Origin<'_>,
@@ -70,6 +71,7 @@ fn answer_stray(
 }
 
 /// Answers a message that is refused.
+#[inline(never)]
 fn answer_refused(
     session: &mut Session,
     origin: Origin<'_>,

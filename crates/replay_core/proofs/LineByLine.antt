@@ -1,5 +1,6 @@
 -- What a line does to what a script makes.
-use Rattle.std.proofs.Common.{◌≡◌, ℕ, ◌+◌, ◌≤◌, ◌⊎◌, false, List, [], ◌∷◌, ◌++◌, take, drop, Ok, Err, Result, refl, sym, ◌∙◌, ap, append_assoc, inl, inr, arith}
+use Rattle.std.proofs.Common.{◌≡◌, ℕ, ◌+◌, ◌≤◌, ◌⊎◌, ◌==◌, true, false, List, [], ◌∷◌, ◌++◌, length, take, drop, Option, Some, None, Ok, Err, Result, refl, sym, ◌∙◌, ap, append_assoc, append-nil, inl, inr, arith}
+use Rattle.std.proofs.lemmas.Bool.Decides.{nat_tests}
 use Rattle.std.proofs.lemmas.List.{take-append-drop}
 use Rattle.std.specs.Io.KnownBytes.{Appends}
 use Rattle.io_edge.specs.Grows.{AppendsPrefix}
@@ -86,3 +87,9 @@ line_refused a b p line fault clear told steps (inl none) =
 line_refused a b p line fault clear told steps (inr step) =
     halts_refused a b _ fault (step_at p line).steps told steps (λ more. line_steps p line more clear)
     (inr (λ more. played_step p line more clear ∙ refused_line (step_at p line) fault (λ q. played q more) step))
+
+-- who is put nothing was put an empty text
+pub nothing_put : (told : Option (List ℕ)) (text : List ℕ) → (length text == 0) ≡ true → Appends told told text
+nothing_put None text e = tt
+nothing_put (Some bytes) [] e = sym (append-nil bytes)
+nothing_put (Some bytes) (byte ∷ text) e = absurd (grind (arith, nat_tests))

@@ -1,5 +1,5 @@
 -- A line at a stage of a script.
-use Rattle.std.proofs.Common.{◌≡◌, ◌⊎◌, ℕ, ◌≤◌, ◌+◌, Bool, true, false, List, [], Result, Ok, Err, refl, sym, ◌∙◌, ap, inl, inr}
+use Rattle.std.proofs.Common.{◌≡◌, ◌⊎◌, ℕ, ◌≤◌, ◌+◌, Bool, true, false, List, [], Result, Ok, Err, OnOk, IfErr, refl, sym, ◌∙◌, ap, inl, inr}
 use Rattle.venue_words.specs.Floors.{SymbolView}
 use Rattle.script_text.specs.declared.header.Header.{Header}
 use Rattle.script_text.specs.declared.fault.LineFault.{LineFault}
@@ -11,6 +11,7 @@ use Rattle.replay_core.specs.Play.{Stage, Head, Body, turned, after_header, afte
 use Rattle.replay_core.specs.PlayLine.{play_line}
 use Rattle.replay_core.specs.Playing.{Playing, before_body}
 use Rattle.replay_core.specs.Stages.{Kept, StandsFor}
+use Rattle.replay_core.specs.declared.phase.Phase.{Phase}
 use Rattle.replay_core.specs.declared.phase.Phase.TheVariants as phase
 
 pub head_refused : {F : Type 0} (at : F → ℕ → SymbolView) (n : ℕ) (header : Header) (stage : Stage) (text : List ℕ) (fault : LineFault)
@@ -30,18 +31,28 @@ head_goes_on at n header next whole (Head other) text e h w =
     (Head next, ap (λ (k : Header). after_header (header_line n k text)) (sym e) ∙ ap after_header (h ∙ ap (λ (b : Bool). Ok (b, next)) w), refl)
 head_goes_on at n header next whole (Body playing) text e h w = absurd e
 
-pub head_ends : {F : Type 0} (at : F → ℕ → SymbolView) (n : ℕ) (header next : Header) (whole : Bool) (stage : Stage) (text : List ℕ) (kept : Kept F)
+pub head_ends : {F : Type 0} (at : F → ℕ → SymbolView) (n : ℕ) (header next : Header) (whole : Bool) (stage : Stage) (text : List ℕ) (begun : Phase F)
     → IsAtStage at (phase.Head header) stage → header_line n header text ≡ Ok (whole, next) → whole ≡ true
-    → StandsFor at kept (before_body next.config)
-    → (behind : Stage) × ((turned n stage text).result ≡ Ok (behind, [])) × IsAtStage at (phase.Body kept) behind
+    → IsAtStage at begun (Body (before_body next.config))
+    → (behind : Stage) × ((turned n stage text).result ≡ Ok (behind, [])) × IsAtStage at begun behind
 unfolding turned
-head_ends at n header next whole (Head other) text kept e h w s = (
+head_ends at n header next whole (Head other) text begun e h w s = (
   Body (before_body next.config),
   ap (λ (k : Header). after_header (header_line n k text)) (sym e)
       ∙ ap after_header (h ∙ ap (λ (b : Bool). Ok (b, next)) w),
   s,
 )
-head_ends at n header next whole (Body playing) text kept e h w s = absurd e
+head_ends at n header next whole (Body playing) text begun e h w s = absurd e
+
+pub head_begins : {F : Type 0} (at : F → ℕ → SymbolView) (n : ℕ) (header next : Header) (whole : Bool) (stage : Stage) (text : List ℕ) (begun : Phase F)
+    (result : Result (Unit {0}) LineFault) (out : List ℕ)
+    → IsAtStage at (phase.Head header) stage → header_line n header text ≡ Ok (whole, next) → whole ≡ true
+    → OnOk result (IsAtStage at begun (Body (before_body next.config))) → IfErr result (λ fault. fault ≡ NoMemory) → out ≡ []
+    → MeetsInPlace (IsAtStage at) (turned n stage text).result result begun out
+head_begins at n header next whole stage text begun (Ok x) out e h w s none empty =
+    let y = head_ends at n header next whole stage text begun e h w s in
+    (y.0, y.1 ∙ ap (λ (t : List ℕ). Ok (y.0, t)) (sym empty), y.2)
+head_begins at n header next whole stage text begun (Err fault) out e h w s none empty = inl none
 
 pub body_worked : {F : Type 0} (at : F → ℕ → SymbolView) (n : ℕ) (kept next : Kept F) (stage : Stage) (text out : List ℕ) (result : Result (Unit {0}) LineFault)
     → ((playing : Playing) → StandsFor at kept playing → MeetsInPlace (StandsFor at) (play_line n playing text).result result next out)

@@ -100,10 +100,17 @@ pub fn play_line<F: PlainFloor, K: Sink, L: Ledger>(
 {
     text.clear();
     match work_line(alloc, phase, line, text, steps) {
-        Ok(()) => match out.put(text.as_slice()) {
-            Ok(()) => Ok(()),
-            Err(_) => Err(Status::WriteFault),
-        },
+        Ok(()) => {
+            let output = text.as_slice();
+            if output.is_empty() {
+                // As for most quotes.
+                return Ok(());
+            }
+            match out.put(output) {
+                Ok(()) => Ok(()),
+                Err(_) => Err(Status::WriteFault),
+            }
+        }
         Err(refused) => Err(status_of(refused)),
     }
 }

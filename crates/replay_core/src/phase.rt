@@ -1,10 +1,12 @@
 //! Header or body: which machine works the next line.
-ghost use Rattle.std.specs.Prelude.{◌≡◌, ◌≤◌, ◌+◌, [], Err, IfErr, length};
+ghost use Rattle.std.specs.Prelude.{◌≡◌, ◌≤◌, ◌+◌, [], Err, IfErr, OnOk, length};
+ghost use Rattle.venue_words.specs.Conditions.{IsConfig};
 ghost use Rattle.venue_words.specs.declared.limits.TheConstants.{MAX_LINE_BYTES};
 ghost use Rattle.script_text.specs.declared.fault.LineFault.{LineFault};
 ghost use Rattle.replay_core.specs.Meets.{MeetsInPlace};
-ghost use Rattle.replay_core.specs.Play.{Stage, turned};
+ghost use Rattle.replay_core.specs.Play.{Stage, Body, turned};
 ghost use Rattle.replay_core.specs.Phases.{IsAtFault, IsAtStage, IsReady};
+ghost use Rattle.replay_core.specs.Playing.{before_body};
 
 use crate::plain_floor::PlainFloor;
 use crate::player::Player;
@@ -12,7 +14,7 @@ use script_text::{Header, LineFault};
 use std::alloc::Global;
 use std::mem::replace;
 use std::sync::ledger::Ledger;
-use venue_words::Steps;
+use venue_words::{Config, Steps};
 
 /// Whether a script is in its header or behind it, or was refused in its header.
 #[derive(Drop)]
@@ -20,6 +22,32 @@ pub enum Phase<F: PlainFloor> {
     Head(Header),
     Body(Player<F>),
     Refused(LineFault),
+}
+
+/// The body begins behind a header that says this config. It stands apart, so that a line of the body does not clear what is
+/// kept here on the stack.
+#[inline(never)]
+fn begin_body<F: PlainFloor>(
+    alloc: Global,
+    phase: &mut Phase<F>,
+    config: Config,
+) -> Result<(), LineFault>
+    requires { IsConfig config }
+    ensures stage { OnOk result (IsAtStage F.at phase.new (Body (before_body config))) }
+    ensures fault { IfErr result (IsAtFault phase.new) }
+    ensures memory { IfErr result (λ fault. fault ≡ LineFault.NoMemory) }
+    ensures ready { IsReady phase.new }
+{
+    match Player::new(alloc, config) {
+        Ok(player) => {
+            *phase = Phase::Body(player);
+            Ok(())
+        }
+        Err(_) => {
+            *phase = Phase::Refused(LineFault::NoMemory);
+            Err(LineFault::NoMemory)
+        }
+    }
 }
 
 /// Works a line, of this number and without its LF, and gives its output. After a fault the phase stands at that fault, and
@@ -51,16 +79,7 @@ pub fn turn<F: PlainFloor, L: Ledger>(
             Ok(false) => Ok(()),
             Ok(true) => {
                 let whole = replace(header, Header::new(alloc));
-                match Player::new(alloc, whole.config) {
-                    Ok(player) => {
-                        *phase = Phase::Body(player);
-                        Ok(())
-                    }
-                    Err(_) => {
-                        *phase = Phase::Refused(LineFault::NoMemory);
-                        Err(LineFault::NoMemory)
-                    }
-                }
+                begin_body(alloc, phase, whole.config)
             }
             Err(fault) => {
                 *phase = Phase::Refused(fault);

@@ -147,6 +147,7 @@ fn refused(cause: LineCause) -> Result<Line, LineFault>
 }
 
 /// Reads what stands behind `M `.
+#[inline(never)]
 #[tactic(auto, using(crate::proofs::Bodies::piece_more))]
 fn message_line(alloc: Global, words: &[u8], config: &Config) -> Result<Line, LineFault>
     requires { length config.now.members ≤ MAX_MEMBERS }
@@ -163,6 +164,7 @@ fn message_line(alloc: Global, words: &[u8], config: &Config) -> Result<Line, Li
 }
 
 /// Reads what stands behind `B `.
+#[inline(never)]
 #[tactic(auto, using(crate::proofs::Bodies::piece_more))]
 fn bytes_line(alloc: Global, words: &[u8], config: &Config) -> Result<Line, LineFault>
     requires { length config.now.members ≤ MAX_MEMBERS }

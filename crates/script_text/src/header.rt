@@ -301,6 +301,7 @@ impl Header {
 
     /// Reads the next line, without its LF, and says whether it ends the header. After a refusal the header may hold a
     /// part of the line, and is to be dropped.
+    #[inline(never)]
     #[tactic(auto, using(crate::proofs::Configured::read_keeps))]
     pub fn line(&mut self, alloc: Global, line: u32, text: &[u8]) -> Result<bool, LineFault>
         ensures line { Meets (header_line line self.old text.now) (with_header result self.new) }

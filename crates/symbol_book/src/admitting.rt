@@ -170,6 +170,7 @@ fn reject(log: &mut ReportLog, event: &Event, member: u32, id: Id, terms: &Terms
 }
 
 /// A New: it is rejected, or it enters.
+#[inline(never)]
 #[tactic(auto, unfolding(eager_meaning::specs::Step::outcome_of, eager_meaning::specs::Entering::on_new, crate::specs::Changes::ids_after))]
 pub fn on_new<E: Engine + Drop, L: Ledger>(
     tick: u32,

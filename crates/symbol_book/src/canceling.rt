@@ -72,6 +72,7 @@ fn cancel<E: Engine + Drop, L: Ledger>(
 }
 
 /// A Cancel: it is refused, or the order leaves.
+#[inline(never)]
 pub fn on_cancel<E: Engine + Drop, L: Ledger>(
     tick: u32,
     parts: &mut Parts<E>,

@@ -277,6 +277,7 @@ fn replace<E: Engine + Drop, L: Ledger>(
 }
 
 /// A Replace: it is refused, the quantity changes, or the order enters anew.
+#[inline(never)]
 pub fn on_replace<E: Engine + Drop, L: Ledger>(
     tick: u32,
     parts: &mut Parts<E>,
