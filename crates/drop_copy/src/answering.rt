@@ -28,7 +28,7 @@ fn refuse(
     ensures reply { IfOk result (λ frame. frame ∷ [] ≡ (refuses moment session.old request.now).turn.replies) }
     ensures err { OnErr result (session.new ≡ session.old) }
 {
-    let kind = text_in(MSG_TYPE, request.fields.as_slice());
+    let kind = text_in(MSG_TYPE, &request.fields);
     let body = business_body(alloc, request.number, kind)?;
     session.send(MessageType::BusinessReject, &body, moment)
 }

@@ -9,7 +9,7 @@ ghost use Rattle.market_data.specs.Faults.{fails_if, first_some, entry_faults, e
 use crate::tags::{MD_ENTRY_PX, MD_ENTRY_TYPE, MD_MKT};
 use fix_fields::{Field, amount};
 use session_core::FailedCheck;
-use session_core::lookup::{is_value, value_of};
+use session_core::lookup::{is_value_in, value_in};
 use session_core::reasons::{TAG_MISSING, VALUE_OUT_OF_RANGE};
 use venue_words::Bytes;
 
@@ -64,11 +64,11 @@ pub fn entry_of<'f, 'a>(fields: &'f [Field<'a>]) -> &'f [Field<'a>]
 fn entry_type(entry: &[Field<'_>]) -> Option<EntryType>
     ensures { result ≡ entry_type entry.now }
 {
-    if is_value(MD_ENTRY_TYPE, b"0", entry) {
+    if is_value_in(MD_ENTRY_TYPE, b"0", entry) {
         Some(EntryType::Bid)
-    } else if is_value(MD_ENTRY_TYPE, b"1", entry) {
+    } else if is_value_in(MD_ENTRY_TYPE, b"1", entry) {
         Some(EntryType::Offer)
-    } else if is_value(MD_ENTRY_TYPE, b"J", entry) {
+    } else if is_value_in(MD_ENTRY_TYPE, b"J", entry) {
         Some(EntryType::EmptyBook)
     } else {
         None
@@ -116,7 +116,7 @@ fn cents_of_amount(units: i128) -> Option<u32>
 fn price_in(entry: &[Field<'_>]) -> Option<u32>
     ensures { result ≡ price_in entry.now }
 {
-    match value_of(MD_ENTRY_PX, entry) {
+    match value_in(MD_ENTRY_PX, entry) {
         Some(bytes) => match amount(bytes) {
             Some(units) => cents_of_amount(units),
             None => None,
@@ -151,7 +151,7 @@ fn market_in(markets: &[Bytes], entry: &[Field<'_>]) -> Option<u32>
     requires { length markets.now ≤ MAX_MARKETS }
     ensures { result ≡ market_in markets.now entry.now }
 {
-    match value_of(MD_MKT, entry) {
+    match value_in(MD_MKT, entry) {
         Some(name) => number_in(markets, name),
         None => None,
     }
@@ -171,14 +171,14 @@ fn entry_fault(
 {
     let failed = |reason, tag| Some(FailedCheck { reason, tag });
     if has_price(of) {
-        if value_of(MD_ENTRY_PX, entry).is_none() {
+        if value_in(MD_ENTRY_PX, entry).is_none() {
             return failed(TAG_MISSING, MD_ENTRY_PX);
         }
         if price.is_none() {
             return failed(VALUE_OUT_OF_RANGE, MD_ENTRY_PX);
         }
     }
-    if value_of(MD_MKT, entry).is_none() {
+    if value_in(MD_MKT, entry).is_none() {
         return failed(TAG_MISSING, MD_MKT);
     }
     if market.is_none() {

@@ -10,7 +10,6 @@ use crate::snapshots::{SnapshotRefusal, read_snapshot};
 use fix_fields::moment;
 use fix_frames::{Framer, Next};
 use fix_write::MessageType;
-use session_core::lookup::value_of;
 use session_core::tags::SENDING_TIME;
 use session_core::{EndCause, Request, Session, Turn};
 use std::alloc::Global;
@@ -23,7 +22,7 @@ use venue_words::{Bytes, Config, NoMemory};
 fn sending_time(request: &Request<'_>) -> Option<i64>
     ensures { result ≡ sending_time request.now }
 {
-    match value_of(SENDING_TIME, request.fields.as_slice()) {
+    match request.fields.value_of(SENDING_TIME) {
         Some(bytes) => moment(bytes),
         None => None,
     }

@@ -10,9 +10,9 @@ use crate::entries::{EntryQuote, begins_entry, entry_of, number_in, read_entry};
 use crate::quotes::quotes_of;
 use crate::tags::{MD_ENTRY_TYPE, NO_MD_ENTRIES, SYMBOL};
 use fix_fields::Field;
-use session_core::lookup::{number_in as number_of_tag, value_of};
+use session_core::lookup::number_in as number_of_tag;
 use session_core::reasons::{TAG_MISSING, TAG_REPEATED, VALUE_OUT_OF_FORM, VALUE_OUT_OF_RANGE};
-use session_core::{FailedCheck, Request};
+use session_core::{FailedCheck, MessageFields, Request};
 use std::alloc::{AllocFailed, Global};
 use venue_words::{Bytes, Command, Config, Items, NoMemory};
 
@@ -67,36 +67,40 @@ impl From<FailedCheck> for SnapshotRefusal {
 }
 
 /// How often a tag stands among the fields.
-fn count_of(tag: u32, fields: &[Field<'_>]) -> usize
+fn count_of(tag: u32, fields: &MessageFields<'_>) -> usize
     ensures { result ≡ count_of tag fields.now }
 {
-    fields.iter().filter(|field| field.tag == tag).count()
+    fields
+        .as_slice()
+        .iter()
+        .filter(|field| field.tag == tag)
+        .count()
 }
 
 /// The number of the symbol, where that is configured.
 #[tactic(auto, unfolding(crate::specs::Faults::symbol_in))]
-fn symbol_in(symbols: &[Bytes], fields: &[Field<'_>]) -> Option<u32>
+fn symbol_in(symbols: &[Bytes], fields: &MessageFields<'_>) -> Option<u32>
     requires { length symbols.now ≤ MAX_SYMBOLS }
     ensures { result ≡ symbol_in symbols.now fields.now }
 {
-    match value_of(SYMBOL, fields) {
+    match fields.value_of(SYMBOL) {
         Some(name) => number_in(symbols, name),
         None => None,
     }
 }
 
 /// Reads what stands beside the entries, and gives the number of the symbol.
-fn read_head(symbols: &[Bytes], fields: &[Field<'_>]) -> Result<u32, FailedCheck>
+fn read_head(symbols: &[Bytes], fields: &MessageFields<'_>) -> Result<u32, FailedCheck>
     requires { length symbols.now ≤ MAX_SYMBOLS }
     ensures failed { IfErr result (λ failed. first_some (head_faults symbols.now fields.now) ≡ Some failed) }
     ensures passed { OnOk result (first_some (head_faults symbols.now fields.now) ≡ None) }
     ensures symbol { IfOk result (λ symbol. symbol_in symbols.now fields.now ≡ Some symbol) }
 {
     let failed = |reason, tag| Err(FailedCheck { reason, tag });
-    if value_of(SYMBOL, fields).is_none() {
+    if fields.value_of(SYMBOL).is_none() {
         return failed(TAG_MISSING, SYMBOL);
     }
-    if value_of(NO_MD_ENTRIES, fields).is_none() {
+    if fields.value_of(NO_MD_ENTRIES).is_none() {
         return failed(TAG_MISSING, NO_MD_ENTRIES);
     }
     if count_of(SYMBOL, fields) > 1 {
@@ -169,9 +173,9 @@ pub fn read_snapshot(
     ensures snapshot { IfOk result (λ snapshot. snapshot_of request.now.fields config.now ≡ Ok snapshot) }
     ensures refused { IfErr result (IsRefusal (snapshot_of request.now.fields config.now)) }
 {
-    let fields = request.fields.as_slice();
+    let fields = &request.fields;
     let symbol = read_head(config.symbols.as_slice(), fields)?;
-    let said = read_entries(alloc, config.markets.as_slice(), fields)?;
+    let said = read_entries(alloc, config.markets.as_slice(), fields.as_slice())?;
     Ok(Snapshot {
         symbol,
         quotes: quotes_of(alloc, &said)?,

@@ -40,7 +40,7 @@ fn answer_business(
         (business_body request.now.number (text_in MSG_TYPE request.now.fields)) moment).turn.replies) }
     ensures err { OnErr result (session.new ≡ session.old) }
 {
-    let kind = text_in(MSG_TYPE, request.fields.as_slice());
+    let kind = text_in(MSG_TYPE, &request.fields);
     let body = business_body(alloc, request.number, kind)?;
     session.send(MessageType::BusinessReject, &body, moment)
 }
@@ -64,7 +64,7 @@ fn answer_stray(
     ensures err { OnErr result (session.new ≡ session.old) }
     ensures none { IfErr result (λ refusal. refusal ≡ no_memory) }
 {
-    let symbol = text_in(SYMBOL, request.fields.as_slice());
+    let symbol = text_in(SYMBOL, &request.fields);
     let name = name_at(origin.config.members.as_slice(), origin.member);
     let body = body(origin.alloc, report, symbol, name)?;
     Ok(Some(session.send(kind(report), &body, origin.moment)?))

@@ -145,7 +145,7 @@ fn tell_request(request: &Request<'_>, told: &mut Told) {
     told.push("\n  message ");
     told.show(&request.number);
     told.push(" of ");
-    told.show(&request.fields.len());
+    told.show(&request.fields.as_slice().len());
     told.push(" fields and type ");
     told.bytes(&[request.kind.byte()]);
 }

@@ -8,10 +8,9 @@ ghost use Rattle.order_fields.specs.Order.{command_of, stray_refusal, stray_kind
 use crate::reading::{amount_or_zero, code_or_zero, id_in, terms_of};
 use crate::tables::{optional_of, required_of};
 use crate::tags::{CL_ORD_ID, ORDER_QTY, ORIG_CL_ORD_ID, SIDE, SYMBOL};
-use fix_fields::Field;
 use fix_write::MessageType;
 use session_core::lookup::text_in;
-use session_core::{Request, first_failed};
+use session_core::{MessageFields, Request, first_failed};
 use std::alloc::Global;
 use venue_words::{
     BoxedId, BoxedTerms, Bytes, Command, Config, Id, Kind, NoMemory, RefusedRequest, Report, Rule,
@@ -44,7 +43,7 @@ pub fn command_of(
     alloc: Global,
     kind: MessageType,
     member: u32,
-    fields: &[Field<'_>],
+    fields: &MessageFields<'_>,
 ) -> Result<Command, NoMemory>
     ensures { IfOk result (λ command. command ≡ command_of kind member fields.now) }
 {
@@ -77,7 +76,7 @@ pub fn command_of(
 /// The refusal of a cancel or a replace of a symbol that is not configured.
 fn refused(
     alloc: Global,
-    fields: &[Field<'_>],
+    fields: &MessageFields<'_>,
     id: Id,
     request: RefusedRequest,
 ) -> Result<Kind, NoMemory>
@@ -94,7 +93,7 @@ fn refused(
 
 /// What answers an order of a symbol that is not configured.
 #[tactic(auto, unfolding(crate::specs::Order::stray_kind))]
-fn stray_kind(alloc: Global, kind: MessageType, fields: &[Field<'_>]) -> Result<Kind, NoMemory>
+fn stray_kind(alloc: Global, kind: MessageType, fields: &MessageFields<'_>) -> Result<Kind, NoMemory>
     ensures { IfOk result (λ answer. answer ≡ stray_kind kind fields.now) }
 {
     let id = id_in(alloc, CL_ORD_ID, fields)?;
@@ -145,7 +144,7 @@ fn decoded_of(
     requires { length config.now.symbols ≤ MAX_SYMBOLS }
     ensures { IfOk result (λ decoded. decoded ≡ decoded_of request.now member config.now moment) }
 {
-    let fields = request.fields.as_slice();
+    let fields = &request.fields;
     match symbol_of(config.symbols.as_slice(), text_in(SYMBOL, fields)) {
         Some(symbol) => Ok(Decoded::Book {
             symbol,
@@ -187,7 +186,7 @@ pub fn read_order(
     }
     let required = required_of(request.kind);
     let optional = optional_of(request.kind);
-    if let Some(failed) = first_failed(required, optional, request.fields.as_slice()) {
+    if let Some(failed) = first_failed(required, optional, &request.fields) {
         return Err(Refusal::Reject {
             reason: failed.reason,
             tag: failed.tag,

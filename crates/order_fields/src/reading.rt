@@ -7,13 +7,14 @@ use crate::tags::{
     MIN_QTY, MIN_QTY_METHOD, ORD_TYPE, ORDER_QTY, PEG_MOVE_TYPE, PEG_OFFSET_TYPE, PEG_OFFSET_VALUE,
     PEG_PRICE_TYPE, PEG_ROUND_DIRECTION, PRICE, SIDE, TIME_IN_FORCE,
 };
-use fix_fields::{Field, amount};
-use session_core::lookup::{number_in, single_byte, text_in, value_of};
+use fix_fields::amount;
+use session_core::MessageFields;
+use session_core::lookup::{number_in, single_byte, text_in};
 use std::alloc::Global;
 use venue_words::{Id, NoMemory, Terms};
 
 /// The id that is the value of a tag.
-pub fn id_in(alloc: Global, tag: u32, fields: &[Field<'_>]) -> Result<Id, NoMemory>
+pub fn id_in(alloc: Global, tag: u32, fields: &MessageFields<'_>) -> Result<Id, NoMemory>
     ensures { IfOk result (λ id. id ≡ text_in tag fields.now) }
 {
     Ok(Id::copy_of(alloc, text_in(tag, fields))?)
@@ -21,17 +22,17 @@ pub fn id_in(alloc: Global, tag: u32, fields: &[Field<'_>]) -> Result<Id, NoMemo
 
 /// The code of a tag, which is one byte.
 #[tactic(auto, unfolding(crate::specs::Reading::code_in))]
-fn code_in(tag: u32, fields: &[Field<'_>]) -> Option<u8>
+fn code_in(tag: u32, fields: &MessageFields<'_>) -> Option<u8>
     ensures { result ≡ code_in tag fields.now }
 {
-    match value_of(tag, fields) {
+    match fields.value_of(tag) {
         Some(bytes) => Some(single_byte(bytes)),
         None => None,
     }
 }
 
 /// The code of a tag that was checked to be there.
-pub fn code_or_zero(tag: u32, fields: &[Field<'_>]) -> u8
+pub fn code_or_zero(tag: u32, fields: &MessageFields<'_>) -> u8
     ensures { result ≡ code_or_zero tag fields.now }
 {
     code_in(tag, fields).unwrap_or(0)
@@ -39,17 +40,17 @@ pub fn code_or_zero(tag: u32, fields: &[Field<'_>]) -> u8
 
 /// The amount of a tag.
 #[tactic(auto, unfolding(crate::specs::Reading::amount_in))]
-fn amount_in(tag: u32, fields: &[Field<'_>]) -> Option<i128>
+fn amount_in(tag: u32, fields: &MessageFields<'_>) -> Option<i128>
     ensures { result ≡ amount_in tag fields.now }
 {
-    match value_of(tag, fields) {
+    match fields.value_of(tag) {
         Some(bytes) => amount(bytes),
         None => None,
     }
 }
 
 /// The amount of a tag that was checked to be there.
-pub fn amount_or_zero(tag: u32, fields: &[Field<'_>]) -> i128
+pub fn amount_or_zero(tag: u32, fields: &MessageFields<'_>) -> i128
     ensures { result ≡ amount_or_zero tag fields.now }
 {
     match amount_in(tag, fields) {
@@ -60,7 +61,7 @@ pub fn amount_or_zero(tag: u32, fields: &[Field<'_>]) -> i128
 
 /// The terms of an order.
 #[tactic(auto, unfolding(crate::specs::Reading::terms_of))]
-pub fn terms_of(fields: &[Field<'_>]) -> Terms
+pub fn terms_of(fields: &MessageFields<'_>) -> Terms
     ensures { result ≡ terms_of fields.now }
 {
     Terms {

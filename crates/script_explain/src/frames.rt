@@ -1,12 +1,12 @@
 //! The stream of a member's connection, message by message.
 use crate::names::message_name;
 use crate::passed::{may_go_on, push_why_passed};
-use fix_fields::{Field, fields};
+use fix_fields::fields;
 use fix_frames::{Framer, Next};
 use fix_write::digits::push_number;
 use session_core::lookup::{kind_of, text_in};
 use session_core::tags::MSG_SEQ_NUM;
-use session_core::{Session, Turn};
+use session_core::{MessageFields, Session, Turn};
 use std::alloc::Global;
 use venue_words::limits::MAX_FRAME_BYTES;
 use venue_words::{Bytes, NoMemory};
@@ -84,7 +84,7 @@ fn push_turn(out: &mut Vec<u8>, turn: &Turn<'_>) -> Result<(), NoMemory> {
 }
 
 /// Tells which message it is.
-fn push_message(out: &mut Vec<u8>, fields: &[Field<'_>]) -> Result<(), NoMemory> {
+fn push_message(out: &mut Vec<u8>, fields: &MessageFields<'_>) -> Result<(), NoMemory> {
     push(out, "  ")?;
     push(out, message_name(kind_of(fields)))?;
     push(out, " 34=")?;
@@ -104,7 +104,7 @@ fn tell_frame(
         return Ok(());
     }
     match fields(alloc, frame) {
-        Ok(fields) => push_message(out, fields.as_slice())?,
+        Ok(fields) => push_message(out, &MessageFields::of(fields))?,
         Err(fault) => {
             push(out, "  a message is passed over, since ")?;
             push(out, fault.text())?;

@@ -4,11 +4,11 @@ ghost use Rattle.session_core.specs.Content.{behind_first_end, content_of};
 ghost use Rattle.venue_words.specs.declared.limits.TheConstants.{MAX_FRAME_BYTES, MAX_MEMBERS};
 ghost use Rattle.serve_core.specs.Greeting.{IsAmong, IsSaidBy, SayTheSame, greeted_by, greeting_of, member_named};
 
-use fix_fields::{Field, FieldFault, fields};
+use fix_fields::{FieldFault, fields};
 use fix_frames::{Framer, Next};
-use session_core::EndCause;
-use session_core::lookup::{message_number, value_of};
+use session_core::lookup::message_number;
 use session_core::tags::SENDER_COMP_ID;
+use session_core::{EndCause, MessageFields};
 use std::alloc::Global;
 use venue_words::{Bytes, Config, NoMemory};
 
@@ -59,13 +59,13 @@ fn member_named(members: &[Bytes], name: &[u8]) -> Option<usize>
 }
 
 /// Whose the connection is whose first frame has these fields.
-fn greeted_by(config: &Config, fields: &[Field<'_>]) -> Greeting
+fn greeted_by(config: &Config, fields: &MessageFields<'_>) -> Greeting
     requires { length config.now.members ≤ MAX_MEMBERS }
     ensures said { result ≡ greeted_by config.now fields.now }
     ensures some { result ≢ Greeting.Unnamed }
     ensures member { IsAmong (length config.now.members) result }
 {
-    let named = match value_of(SENDER_COMP_ID, fields) {
+    let named = match fields.value_of(SENDER_COMP_ID) {
         Some(name) => member_named(config.members.as_slice(), name),
         None => None,
     };
@@ -85,7 +85,7 @@ fn greeting_in(alloc: Global, config: &Config, frame: &[u8]) -> Result<Option<Gr
     ensures member { IfOk result (λ said. IfSome said (IsAmong (length config.now.members))) }
 {
     match fields(alloc, content_of(frame)) {
-        Ok(fields) => Ok(Some(greeted_by(config, fields.as_slice()))),
+        Ok(fields) => Ok(Some(greeted_by(config, &MessageFields::of(fields)))),
         Err(FieldFault::NoMemory) => Err(NoMemory),
         Err(_) => Ok(None),
     }

@@ -19,6 +19,7 @@ pub mod Resent
 pub mod Runs
 pub mod Sent
 pub mod Sequence
+pub mod Starts
 pub mod State
 pub mod Tables
 pub use Rattle.fix_fields.specs.Fields

@@ -46,7 +46,7 @@ pub fn rejects(
     ensures plan { IfOk result (λ p. p ≡ rejects state incoming.now tag reason) }
     ensures quiet { IfOk result (λ p. p.request ≡ None) }
 {
-    let kind = text_in(MSG_TYPE, incoming.fields.as_slice());
+    let kind = text_in(MSG_TYPE, &incoming.fields);
     says_one(
         alloc,
         state,
@@ -69,7 +69,7 @@ pub fn drops_wrong_name(
     if !is_up(state) {
         return Ok(stays(alloc, state_after));
     }
-    let kind = text_in(MSG_TYPE, incoming.fields.as_slice());
+    let kind = text_in(MSG_TYPE, &incoming.fields);
     let rejection = reject(alloc, incoming.number, tag, kind, WRONG_NAME)?;
     let plan = says_one(alloc, state_after, rejection)?;
     then_says(plan, logout(alloc, b"WRONG NAME")?)

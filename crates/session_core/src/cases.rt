@@ -29,7 +29,7 @@ pub fn on_message(
     ensures plan { IfOk result (λ p. p ≡ on_message member.now sent state incoming.now) }
     ensures up { IfOk result HandsOutUp }
 {
-    let fields = incoming.fields.as_slice();
+    let fields = &incoming.fields;
     if !is_value(SENDER_COMP_ID, member, fields) {
         return drops_wrong_name(alloc, state, incoming, SENDER_COMP_ID);
     }

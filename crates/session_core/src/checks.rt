@@ -1,14 +1,13 @@
 //! The checks of a message over a table, which says what tags it must have and may have, and the form of each.
-ghost use Rattle.std.specs.Prelude.{◌≡◌, ◌&&◌, false, [], None, is_some};
-ghost use Rattle.session_core.specs.Lookup.{value_of};
+ghost use Rattle.std.specs.Prelude.{◌≡◌, []};
 ghost use Rattle.session_core.specs.Checks.{has_form, first_empty, is_listed, is_read, first_repeated, first_missing, is_outside, first_outside, is_long, first_long, first_failed};
 
-use crate::lookup::value_of;
+use crate::message_fields::MessageFields;
 use crate::reasons::{
     TAG_MISSING, TAG_REPEATED, VALUE_MISSING, VALUE_OUT_OF_FORM, VALUE_OUT_OF_RANGE,
 };
 use crate::tags::{MSG_SEQ_NUM, MSG_TYPE, SENDER_COMP_ID, TARGET_COMP_ID};
-use fix_fields::{Field, amount, moment, number};
+use fix_fields::{amount, moment, number};
 use venue_words::limits::MAX_ID_BYTES;
 
 /// How the value of a tag may look.
@@ -63,10 +62,11 @@ fn has_form(form: Form, bytes: &[u8]) -> bool
 
 /// The tag of the first field with an empty value.
 #[tactic(auto, unfolding(crate::specs::Checks::first_empty))]
-fn first_empty(fields: &[Field<'_>]) -> Option<u32>
+fn first_empty(fields: &MessageFields<'_>) -> Option<u32>
     ensures { result ≡ first_empty fields.now }
 {
     fields
+        .as_slice()
         .iter()
         .find(|field| field.bytes.is_empty())
         .map(|field| field.tag)
@@ -81,12 +81,12 @@ fn is_listed(tag: u32, items: &[Item]) -> bool
 
 /// The first of these tags that is missing.
 #[tactic(auto, unfolding(crate::specs::Checks::first_missing))]
-fn first_missing(items: &[Item], fields: &[Field<'_>]) -> Option<u32>
+fn first_missing(items: &[Item], fields: &MessageFields<'_>) -> Option<u32>
     ensures { result ≡ first_missing items.now fields.now }
 {
     items
         .iter()
-        .find(|item| value_of(item.tag, fields).is_none())
+        .find(|item| fields.value_of(item.tag).is_none())
         .map(|item| item.tag)
 }
 
@@ -102,42 +102,24 @@ fn is_read(required: &[Item], optional: &[Item], tag: u32) -> bool
         || is_listed(tag, optional)
 }
 
-/// Whether the tag of a field is read and stood before, where that can be: a tag whose remainder was not seen stood not.
-fn is_repeated(
-    seen: bool,
-    required: &[Item],
-    optional: &[Item],
-    tag: u32,
-    before: &[Field<'_>],
-) -> bool
-    requires { seen ≡ false → value_of tag before.now ≡ None }
-    ensures { result ≡ is_read required.now optional.now tag && is_some (value_of tag before.now) }
-{
-    seen && is_read(required, optional, tag) && value_of(tag, before).is_some()
-}
-
 /// The first field whose tag is read and stood before.
 #[tactic(auto, unfolding(crate::specs::Checks::first_repeated))]
-fn first_repeated(required: &[Item], optional: &[Item], fields: &[Field<'_>]) -> Option<u32>
+fn first_repeated(required: &[Item], optional: &[Item], fields: &MessageFields<'_>) -> Option<u32>
     ensures { result ≡ first_repeated required.now optional.now [] fields.now }
 {
-    // By the remainders of tags most fields need no look at those before them.
-    let mut seen = [false; 64];
-    for (i, field) in fields.iter().enumerate() {
-        let remainder = (field.tag % 64) as usize;
-        if is_repeated(seen[remainder], required, optional, field.tag, &fields[..i]) {
+    for (i, field) in fields.as_slice().iter().enumerate() {
+        if fields.stands_before(field.tag, i) && is_read(required, optional, field.tag) {
             return Some(field.tag);
         }
-        seen[remainder] = true;
     }
     None
 }
 
 /// Whether a tag is there with a value outside its form.
-fn is_outside(item: Item, fields: &[Field<'_>]) -> bool
+fn is_outside(item: Item, fields: &MessageFields<'_>) -> bool
     ensures { result ≡ is_outside fields.now item }
 {
-    match value_of(item.tag, fields) {
+    match fields.value_of(item.tag) {
         Some(bytes) => !has_form(item.form, bytes),
         None => false,
     }
@@ -145,7 +127,7 @@ fn is_outside(item: Item, fields: &[Field<'_>]) -> bool
 
 /// The first of these tags that has a value outside its form.
 #[tactic(auto, unfolding(crate::specs::Checks::first_outside))]
-fn first_outside(items: &[Item], fields: &[Field<'_>]) -> Option<u32>
+fn first_outside(items: &[Item], fields: &MessageFields<'_>) -> Option<u32>
     ensures { result ≡ first_outside items.now fields.now }
 {
     items
@@ -155,10 +137,10 @@ fn first_outside(items: &[Item], fields: &[Field<'_>]) -> Option<u32>
 }
 
 /// Whether a tag is there with an identifier that is too long.
-fn is_long(item: Item, fields: &[Field<'_>]) -> bool
+fn is_long(item: Item, fields: &MessageFields<'_>) -> bool
     ensures { result ≡ is_long fields.now item }
 {
-    match (item.form, value_of(item.tag, fields)) {
+    match (item.form, fields.value_of(item.tag)) {
         (Form::Identifier, Some(bytes)) => MAX_ID_BYTES < bytes.len(),
         _ => false,
     }
@@ -166,7 +148,7 @@ fn is_long(item: Item, fields: &[Field<'_>]) -> bool
 
 /// The first of these tags that has an identifier that is too long.
 #[tactic(auto, unfolding(crate::specs::Checks::first_long))]
-fn first_long(items: &[Item], fields: &[Field<'_>]) -> Option<u32>
+fn first_long(items: &[Item], fields: &MessageFields<'_>) -> Option<u32>
     ensures { result ≡ first_long items.now fields.now }
 {
     items
@@ -182,7 +164,7 @@ fn first_long(items: &[Item], fields: &[Field<'_>]) -> Option<u32>
 pub fn first_failed(
     required: &[Item],
     optional: &[Item],
-    fields: &[Field<'_>],
+    fields: &MessageFields<'_>,
 ) -> Option<FailedCheck>
     ensures { result ≡ first_failed required.now optional.now fields.now }
 {

@@ -12,6 +12,7 @@ pub mod laws;
 mod logon;
 pub mod lookup;
 mod message;
+mod message_fields;
 mod message_list;
 mod plan;
 pub mod reasons;
@@ -28,6 +29,7 @@ mod turn;
 
 pub use checks::{FailedCheck, Form, Item, first_failed};
 pub use message::{Kept, Message, Request};
+pub use message_fields::MessageFields;
 pub use message_list::{Body, ListedMessage, MessageList};
 pub use runs::Input;
 pub use session::Session;

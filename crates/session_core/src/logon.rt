@@ -8,18 +8,18 @@ use crate::answers::logs_out;
 use crate::bodies::logon;
 use crate::lookup::{is_value, is_yes, number_in, number_or_zero, text_in};
 use crate::message::Incoming;
+use crate::message_fields::MessageFields;
 use crate::plan::{Plan, says_one, stays};
 use crate::resend::then_asks_again;
 use crate::state::{EndCause, Phase, State, ended};
 use crate::tables::failed_of;
 use crate::tags::{DEFAULT_APPL_VER_ID, ENCRYPT_METHOD, HEART_BT_INT, RESET_SEQ_NUM_FLAG};
-use fix_fields::Field;
 use fix_write::MessageType;
 use std::alloc::Global;
 use venue_words::NoMemory;
 
 /// Whether EncryptMethod(98) is there and is 0.
-fn is_unencrypted(fields: &[Field<'_>]) -> bool
+fn is_unencrypted(fields: &MessageFields<'_>) -> bool
     ensures { result ≡ option_map_or (λ n. n == 0) (number_in ENCRYPT_METHOD fields.now) false }
 {
     match number_in(ENCRYPT_METHOD, fields) {
@@ -33,7 +33,7 @@ fn is_unencrypted(fields: &[Field<'_>]) -> bool
 fn is_bad_logon(incoming: &Incoming<'_>) -> bool
     ensures { result ≡ is_bad_logon incoming.now }
 {
-    let fields = incoming.fields.as_slice();
+    let fields = &incoming.fields;
     failed_of(MessageType::Logon, fields).is_some()
         || !is_unencrypted(fields)
         || !is_value(DEFAULT_APPL_VER_ID, b"9", fields)
@@ -53,7 +53,7 @@ fn logged_on(state: State, incoming: &Incoming<'_>, next: u32) -> State
     };
     State {
         phase: Phase::Up,
-        heartbeat: number_or_zero(HEART_BT_INT, incoming.fields.as_slice()),
+        heartbeat: number_or_zero(HEART_BT_INT, &incoming.fields),
         next_in,
         ..state
     }
@@ -72,7 +72,7 @@ fn takes_logon(
     ensures plan { IfOk result (λ p. p ≡ takes_logon state incoming.now reset next) }
     ensures quiet { IfOk result (λ p. p.request ≡ None) }
 {
-    let interval = text_in(HEART_BT_INT, incoming.fields.as_slice());
+    let interval = text_in(HEART_BT_INT, &incoming.fields);
     let answer = logon(alloc, interval, reset)?;
     let mut plan = says_one(alloc, logged_on(state, incoming, next), answer)?;
     plan.reset = reset;
@@ -93,7 +93,7 @@ fn on_logon(alloc: Global, state: State, incoming: &Incoming<'_>) -> Result<Plan
     if is_bad_logon(incoming) {
         return logs_out(alloc, state, EndCause::BadLogon, b"BAD LOGON");
     }
-    let reset = is_yes(RESET_SEQ_NUM_FLAG, incoming.fields.as_slice());
+    let reset = is_yes(RESET_SEQ_NUM_FLAG, &incoming.fields);
     let next = if reset { 1 } else { state.next_in };
     if incoming.number < next {
         return logs_out(alloc, state, EndCause::TooLow, b"TOO LOW");

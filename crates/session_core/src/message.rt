@@ -1,7 +1,7 @@
 //! Messages that are received, that are sent, and that are kept.
-use fix_fields::Field;
+use crate::message_fields::MessageFields;
 use fix_write::MessageType;
-use venue_words::{Bytes, Items};
+use venue_words::Bytes;
 
 /// A message that was received, with its number.
 #[derive(Drop)]
@@ -11,7 +11,7 @@ pub(crate) struct Incoming<'a> {
     /// MsgType(35), by its byte where it has exactly one, and else by 0.
     pub kind: MessageType,
     /// All its fields, in their order.
-    pub fields: Items<Field<'a>>,
+    pub fields: MessageFields<'a>,
 }
 
 /// A message that the session hands out, since it is not one of the session's own, over the bytes of its frame. An order
@@ -24,7 +24,7 @@ pub struct Request<'a> {
     /// MsgType(35), by its byte where it has exactly one, and else by 0.
     pub kind: MessageType,
     /// All its fields, in their order.
-    pub fields: Items<Field<'a>>,
+    pub fields: MessageFields<'a>,
 }
 
 /// A message that is to be sent, without its head.

@@ -47,7 +47,7 @@ pub fn on_resend_request(
     ensures plan { IfOk result (λ p. p ≡ on_resend_request state incoming.now sent) }
     ensures quiet { IfOk result (λ p. p.request ≡ None) }
 {
-    let fields = incoming.fields.as_slice();
+    let fields = &incoming.fields;
     let asked = Span {
         first: u64::from(number_or_zero(BEGIN_SEQ_NO, fields)),
         last: u64::from(number_or_zero(END_SEQ_NO, fields)),

@@ -29,7 +29,7 @@ fn sets_next(
     ensures plan { IfOk result (λ p. p ≡ sets_next state incoming.now least) }
     ensures quiet { IfOk result (λ p. p.request ≡ None) }
 {
-    let next_in = number_or_zero(NEW_SEQ_NO, incoming.fields.as_slice());
+    let next_in = number_or_zero(NEW_SEQ_NO, &incoming.fields);
     if least <= next_in {
         Ok(stays(alloc, State { next_in, ..state }))
     } else {
@@ -43,7 +43,7 @@ fn on_reset(alloc: Global, state: State, incoming: &Incoming<'_>) -> Result<Plan
     ensures plan { IfOk result (λ p. p ≡ on_reset state incoming.now) }
     ensures quiet { IfOk result (λ p. p.request ≡ None) }
 {
-    match failed_of(MessageType::SequenceReset, incoming.fields.as_slice()) {
+    match failed_of(MessageType::SequenceReset, &incoming.fields) {
         Some(failed) => rejects(alloc, state, incoming, failed.tag, failed.reason),
         None => sets_next(alloc, state, incoming, state.next_in),
     }
@@ -55,7 +55,7 @@ fn on_logout(alloc: Global, state: State, incoming: &Incoming<'_>) -> Result<Pla
     ensures plan { IfOk result (λ p. p ≡ on_logout state incoming.now) }
     ensures quiet { IfOk result (λ p. p.request ≡ None) }
 {
-    match failed_of(MessageType::Logout, incoming.fields.as_slice()) {
+    match failed_of(MessageType::Logout, &incoming.fields) {
         Some(failed) => rejects(alloc, state, incoming, failed.tag, failed.reason),
         None => logs_out(alloc, state, EndCause::Logout, b""),
     }
@@ -67,7 +67,7 @@ fn too_low(alloc: Global, state: State, incoming: &Incoming<'_>) -> Result<Plan,
     ensures plan { IfOk result (λ p. p ≡ too_low state incoming.now) }
     ensures quiet { IfOk result (λ p. p.request ≡ None) }
 {
-    if is_yes(POSS_DUP_FLAG, incoming.fields.as_slice()) {
+    if is_yes(POSS_DUP_FLAG, &incoming.fields) {
         Ok(stays(alloc, state))
     } else {
         logs_out(alloc, state, EndCause::TooLow, b"TOO LOW")
@@ -93,7 +93,7 @@ fn resends_early(
     ensures plan { IfOk result (λ p. p ≡ resends_early state incoming.now sent) }
     ensures quiet { IfOk result (λ p. p.request ≡ None) }
 {
-    if failed_of(MessageType::ResendRequest, incoming.fields.as_slice()).is_some() {
+    if failed_of(MessageType::ResendRequest, &incoming.fields).is_some() {
         return asks_again(alloc, state);
     }
     let plan = on_resend_request(alloc, state, incoming, sent)?;
@@ -124,7 +124,7 @@ fn answers_test(alloc: Global, state: State, incoming: &Incoming<'_>) -> Result<
     ensures plan { IfOk result (λ p. p ≡ answers_test state incoming.now) }
     ensures quiet { IfOk result (λ p. p.request ≡ None) }
 {
-    let id = text_in(TEST_REQ_ID, incoming.fields.as_slice());
+    let id = text_in(TEST_REQ_ID, &incoming.fields);
     says_one(alloc, state, test_answer(alloc, id)?)
 }
 
@@ -168,7 +168,7 @@ fn in_turn(
     if incoming.kind.is_order() {
         return Ok(hands_out(alloc, state, incoming));
     }
-    match failed_of(incoming.kind, incoming.fields.as_slice()) {
+    match failed_of(incoming.kind, &incoming.fields) {
         Some(failed) => rejects(alloc, state, incoming, failed.tag, failed.reason),
         None => by_type(alloc, state, incoming, sent),
     }
@@ -206,7 +206,7 @@ fn in_reset_mode(incoming: &Incoming<'_>) -> bool
     ensures { result ≡ in_reset_mode incoming.now.kind incoming.now.fields }
 {
     match incoming.kind {
-        MessageType::SequenceReset => !is_yes(GAP_FILL_FLAG, incoming.fields.as_slice()),
+        MessageType::SequenceReset => !is_yes(GAP_FILL_FLAG, &incoming.fields),
         _ => false,
     }
 }

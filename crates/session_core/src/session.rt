@@ -8,6 +8,7 @@ use crate::content::content_of;
 use crate::frames::{new_frame, push_listed_frames, push_new_frames};
 use crate::lookup::{kind_of, message_number};
 use crate::message::Incoming;
+use crate::message_fields::MessageFields;
 use crate::message_list::MessageList;
 use crate::plan::Plan;
 use crate::resent::frames_of_span;
@@ -166,7 +167,7 @@ impl Session {
     fn carry_out<'a>(
         &mut self,
         moment: i64,
-        fields: Items<Field<'a>>,
+        fields: MessageFields<'a>,
         plan: &Plan,
     ) -> Result<Turn<'a>, NoMemory>
         requires { HandsOutUp plan.now }
@@ -186,7 +187,7 @@ impl Session {
     /// What a message with no number does, over its fields. Nothing changes where memory is wanted.
     fn work_unnumbered<'a>(
         &mut self,
-        fields: Items<Field<'a>>,
+        fields: MessageFields<'a>,
         moment: i64,
     ) -> Result<Turn<'a>, NoMemory>
         ensures machine { OnOk result (self.new ≡ (carried_out self.old moment fields.entry
@@ -228,13 +229,14 @@ impl Session {
         ensures up { IfOk result (λ turn. OnSome turn.request (IsUp self.new)) }
         ensures err { OnErr result (self.new ≡ self.old) }
     {
+        let fields = MessageFields::of(fields);
         let Some(number) = message_number(&fields) else {
-            return self.work_unnumbered(Items(fields), moment);
+            return self.work_unnumbered(fields, moment);
         };
         let incoming = Incoming {
             number,
             kind: kind_of(&fields),
-            fields: Items(fields),
+            fields,
         };
         self.work_numbered(incoming, moment)
     }
@@ -295,7 +297,7 @@ impl Session {
             self.give_up();
             return Err(NoMemory);
         };
-        match self.carry_out(moment, Items(Vec::new(self.alloc)), &plan) {
+        match self.carry_out(moment, MessageFields::of(Vec::new(self.alloc)), &plan) {
             Ok(turn) => Ok(turn),
             Err(_) => {
                 self.give_up();

@@ -3,11 +3,11 @@ ghost use Rattle.std.specs.Prelude.{◌≡◌};
 ghost use Rattle.session_core.specs.Tables.{required_of, optional_of, failed_of};
 
 use crate::checks::{FailedCheck, Item, first_failed};
+use crate::message_fields::MessageFields;
 use crate::tags::{
     BEGIN_SEQ_NO, DEFAULT_APPL_VER_ID, ENCRYPT_METHOD, END_SEQ_NO, GAP_FILL_FLAG, HEART_BT_INT,
     NEW_SEQ_NO, POSS_DUP_FLAG, RESET_SEQ_NUM_FLAG, SENDING_TIME, TEST_REQ_ID,
 };
-use fix_fields::Field;
 use fix_write::MessageType;
 
 /// Tags and their forms, as `items![SENDING_TIME: Moment]`.
@@ -49,7 +49,7 @@ pub fn optional_of(kind: MessageType) -> &'static [Item]
 
 /// The first check of the session's own that a message of a type fails.
 #[tactic(auto, unfolding(crate::specs::Tables::failed_of))]
-pub fn failed_of(kind: MessageType, fields: &[Field<'_>]) -> Option<FailedCheck>
+pub fn failed_of(kind: MessageType, fields: &MessageFields<'_>) -> Option<FailedCheck>
     ensures { result ≡ failed_of kind fields.now }
 {
     first_failed(required_of(kind), optional_of(kind), fields)

@@ -3,9 +3,9 @@ ghost use Rattle.std.specs.Prelude.{◌≡◌, option_map};
 ghost use Rattle.session_core.specs.Machine.{request_of, sent_now};
 
 use crate::message::Request;
+use crate::message_fields::MessageFields;
 use crate::plan::RequestHead;
 use crate::state::{EndCause, State};
-use fix_fields::Field;
 use venue_words::{Bytes, Items};
 
 /// What a turn gives.
@@ -20,7 +20,10 @@ pub struct Turn<'a> {
 }
 
 /// The request that a plan hands out, over the fields of the message.
-pub(crate) fn request_of(fields: Items<Field<'_>>, head: Option<RequestHead>) -> Option<Request<'_>>
+pub(crate) fn request_of(
+    fields: MessageFields<'_>,
+    head: Option<RequestHead>,
+) -> Option<Request<'_>>
     ensures { result ≡ option_map (request_of fields.entry) head }
 {
     match head {
