@@ -93,7 +93,11 @@ fn refused(
 
 /// What answers an order of a symbol that is not configured.
 #[tactic(auto, unfolding(crate::specs::Order::stray_kind))]
-fn stray_kind(alloc: Global, kind: MessageType, fields: &MessageFields<'_>) -> Result<Kind, NoMemory>
+fn stray_kind(
+    alloc: Global,
+    kind: MessageType,
+    fields: &MessageFields<'_>,
+) -> Result<Kind, NoMemory>
     ensures { IfOk result (λ answer. answer ≡ stray_kind kind fields.now) }
 {
     let id = id_in(alloc, CL_ORD_ID, fields)?;
