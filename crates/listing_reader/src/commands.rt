@@ -6,6 +6,7 @@ use crate::fields::{fields_of, told_bytes};
 use crate::words::{place_in, split_word, told_side};
 use fix_write::MessageType;
 use order_fields::command_of;
+use session_core::MessageFields;
 use std::alloc::Global;
 use venue_words::{Command, Config, NoMemory};
 
@@ -39,7 +40,7 @@ fn told_request(
     let member = place_in(config.members.as_slice(), member);
     let bytes = told_bytes(alloc, fields)?;
     let fields = fields_of(alloc, bytes.as_slice())?;
-    command_of(alloc, kind, member, fields.as_slice())
+    command_of(alloc, kind, member, &MessageFields::of(fields))
 }
 
 /// The first byte of a text, or 0.
