@@ -9,6 +9,9 @@ use std::test::Fail;
 /// How many lines of the first trade's transcript stand behind so many lines of its script.
 const ANSWERED: [usize; 12] = [0, 0, 0, 0, 0, 0, 0, 1, 2, 2, 3, 6];
 
+/// How many lines of that transcript stand before each put of it, and before the flush behind the last put.
+const PUT_BEFORE: [usize; 5] = [0, 1, 2, 3, 6];
+
 /// The most bytes of a pull.
 const PIECE: usize = 7;
 
@@ -114,7 +117,7 @@ fn a_call_that_is_not_reached_fails_nothing(rt: HostRuntime) -> Result<(), Fail>
     let alloc = rt.alloc();
     let (script, trade) = first_trade(alloc)?;
     let calls = script.len().div_ceil(PIECE) as u64 + 2;
-    let fails = (calls + 1, 13, 1);
+    let fails = (calls + 1, 6, 1);
     check_failed(
         &rt,
         alloc,
@@ -130,10 +133,10 @@ fn each_failing_put_leaves_a_beginning_of_the_transcript(rt: HostRuntime) -> Res
     let alloc = rt.alloc();
     let (script, trade) = first_trade(alloc)?;
     let script = script.as_str();
-    // The output of each line of the script is put by itself. The last call flushes.
-    for put in 1..13usize {
-        let output = front(trade, answered(trade, put - 1)?);
-        let call = put as u64;
+    // The output of each line of the script that has some is put by itself. The last call flushes.
+    for (place, count) in PUT_BEFORE.iter().enumerate() {
+        let output = front(trade, size_of_lines(trade, *count));
+        let call = place as u64 + 1;
         check_failed(&rt, alloc, script, (0, call, 0), Status::WriteFault, output)?;
         check_failed(&rt, alloc, script, (0, call, 1), Status::WriteFault, output)?;
     }
