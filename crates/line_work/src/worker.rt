@@ -86,7 +86,7 @@ impl LineWorker {
         }
     }
 
-    /// The clock says a moment.
+    /// The clock says a moment. It stands apart, since a line with a quote would clear its locals too.
     #[inline(never)]
     fn tick(&mut self, moment: i64, out: &mut Vec<u8>) -> Result<(), NoMemory>
         ensures stands { OnOk result ((state : FeedState) → StandsFor self.old state
@@ -100,7 +100,7 @@ impl LineWorker {
         tick_all(&self.config, self.desks.as_mut_slice(), moment, out)
     }
 
-    /// A piece comes on a member's stream.
+    /// A piece comes on a member's stream. It stands apart, as `tick` does.
     #[inline(never)]
     fn take<F: Floor, L: Ledger>(
         &mut self,
@@ -235,7 +235,7 @@ impl LineWorker {
 
     /// Sends a member his reports past the cursors, of the symbols that are asked, at the moment of the last line, where his
     /// session is up: they are appended, one frame in a line, and all cursors go on. After a refusal the member may have been sent
-    /// what is not appended.
+    /// what is not appended. It stands apart, as `tick` does.
     #[inline(never)]
     pub fn pull_news<F: Floor>(
         &mut self,

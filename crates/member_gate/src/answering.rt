@@ -45,7 +45,8 @@ fn answer_business(
     session.send(MessageType::BusinessReject, &body, moment)
 }
 
-/// Sends the report that answers an order of a symbol that is not configured.
+/// Sends the report that answers an order of a symbol that is not configured. It stands apart, so that what is accepted does
+/// not clear its locals.
 #[inline(never)]
 fn answer_stray(
     session: &mut Session,
@@ -70,7 +71,7 @@ fn answer_stray(
     Ok(Some(session.send(kind(report), &body, origin.moment)?))
 }
 
-/// Answers a message that is refused.
+/// Answers a message that is refused. It stands apart, as `answer_stray` does.
 #[inline(never)]
 fn answer_refused(
     session: &mut Session,

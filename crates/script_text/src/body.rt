@@ -146,7 +146,7 @@ fn refused(cause: LineCause) -> Result<Line, LineFault>
     Err(LineFault::Bad { line: 1, cause })
 }
 
-/// Reads what stands behind `M `.
+/// Reads what stands behind `M `. It stands apart, so that a line with a quote does not clear its locals.
 #[inline(never)]
 #[tactic(auto, using(crate::proofs::Bodies::piece_more))]
 fn message_line(alloc: Global, words: &[u8], config: &Config) -> Result<Line, LineFault>
@@ -163,7 +163,7 @@ fn message_line(alloc: Global, words: &[u8], config: &Config) -> Result<Line, Li
     at_first(piece(member, message(alloc, text)?))
 }
 
-/// Reads what stands behind `B `.
+/// Reads what stands behind `B `. It stands apart, as `message_line` does.
 #[inline(never)]
 #[tactic(auto, using(crate::proofs::Bodies::piece_more))]
 fn bytes_line(alloc: Global, words: &[u8], config: &Config) -> Result<Line, LineFault>

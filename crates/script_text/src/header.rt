@@ -300,7 +300,7 @@ impl Header {
     }
 
     /// Reads the next line, without its LF, and says whether it ends the header. After a refusal the header may hold a
-    /// part of the line, and is to be dropped.
+    /// part of the line, and is to be dropped. It stands apart, so that a line of the body does not clear its locals.
     #[inline(never)]
     #[tactic(auto, using(crate::proofs::Configured::read_keeps))]
     pub fn line(&mut self, alloc: Global, line: u32, text: &[u8]) -> Result<bool, LineFault>

@@ -6,8 +6,8 @@ use crate::lookup::value_in;
 use fix_fields::Field;
 use std::marker::Model;
 
-/// How many of these fields stand before the first whose tag has a remainder, for each: 255 where there are as many, and
-/// where no tag has it.
+/// How many of these fields stand before the first whose tag has a remainder by 64, for each: 255 where there are as many,
+/// and where no tag has it.
 fn starts_of(fields: &[Field<'_>]) -> [u8; 64]
     ensures { AreInTime result fields.now }
 {
@@ -20,8 +20,8 @@ fn starts_of(fields: &[Field<'_>]) -> [u8; 64]
     starts
 }
 
-/// The fields of a message, in their order. A look for a tag begins at the first field whose tag has the same remainder,
-/// which is mostly its own. Contracts see the list of the fields.
+/// The fields of a message, in their order. A look for a tag begins at the first field whose tag has the same remainder
+/// by 64, which is mostly its own. Contracts see the list of the fields.
 #[derive(Debug, Drop)]
 pub struct MessageFields<'a> {
     list: Vec<Field<'a>>,

@@ -26,6 +26,14 @@ key_for tick (Cancel member id orig) = None
 key_for tick (Replace member id orig terms) = Some (key_of tick terms)
 key_for tick (Status member id side) = None
 
+-- a command of a member: no quote
+abbrev pub IsRequest : Command → Type 0
+IsRequest (Quote market bid offer) = ⊥
+IsRequest (New member id terms) = Unit {0}
+IsRequest (Cancel member id orig) = Unit {0}
+IsRequest (Replace member id orig terms) = Unit {0}
+IsRequest (Status member id side) = Unit {0}
+
 -- the bytes of the id that an order may get
 abbrev pub id_bytes : Command → ℕ
 id_bytes (Quote market bid offer) = 0

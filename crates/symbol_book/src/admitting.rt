@@ -169,7 +169,7 @@ fn reject(log: &mut ReportLog, event: &Event, member: u32, id: Id, terms: &Terms
     log.push(event, 1, member, kind)
 }
 
-/// A New: it is rejected, or it enters.
+/// A New: it is rejected, or it enters. It stands apart, so that other commands do not clear its locals.
 #[inline(never)]
 #[tactic(auto, unfolding(eager_meaning::specs::Step::outcome_of, eager_meaning::specs::Entering::on_new, crate::specs::Changes::ids_after))]
 pub fn on_new<E: Engine + Drop, L: Ledger>(

@@ -71,7 +71,7 @@ fn cancel<E: Engine + Drop, L: Ledger>(
         .push(event, 1, member, Kind::Order { view, execution })
 }
 
-/// A Cancel: it is refused, or the order leaves.
+/// A Cancel: it is refused, or the order leaves. It stands apart, as `on_new` does.
 #[inline(never)]
 pub fn on_cancel<E: Engine + Drop, L: Ledger>(
     tick: u32,

@@ -276,7 +276,7 @@ fn replace<E: Engine + Drop, L: Ledger>(
     }
 }
 
-/// A Replace: it is refused, the quantity changes, or the order enters anew.
+/// A Replace: it is refused, the quantity changes, or the order enters anew. It stands apart, as `on_new` does.
 #[inline(never)]
 pub fn on_replace<E: Engine + Drop, L: Ledger>(
     tick: u32,

@@ -43,7 +43,7 @@ fn view_now<E: Engine, L: Ledger>(
     }
 }
 
-/// A status request: the order is reported as it is, or as unknown.
+/// A status request: the order is reported as it is, or as unknown. It stands apart, as `on_new` does.
 #[inline(never)]
 #[tactic(auto, unfolding(eager_meaning::specs::Step::on_status))]
 pub fn on_status<E: Engine + Drop, L: Ledger>(
