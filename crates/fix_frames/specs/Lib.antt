@@ -3,13 +3,11 @@ pub mod FrameLaws
 pub mod FramedLaws
 pub mod Frames
 pub mod MomentLaws
+pub mod NextLaws
 pub mod PlaceLaws
 pub mod Places
 pub mod Reading
 pub mod ReadingLaws
-pub mod RunLaws
-pub mod Runs
 pub mod Search
 pub mod StreamLaws
 pub mod Streams
-pub mod Taking

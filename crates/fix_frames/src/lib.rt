@@ -2,9 +2,8 @@
 #![tactic(auto)]
 
 pub mod framer;
-pub mod laws;
 mod place;
-pub mod reading;
+mod reading;
 
 pub use framer::{Framer, Next};
-pub use reading::{Reading, read_frames};
+pub use reading::Reading;

@@ -1,6 +1,7 @@
 //! The frames of a stream, however it is cut.
 use case_text::Told;
-use fix_frames::{Reading, read_frames};
+use fix_frames::Reading;
+use message_laws::read_frames;
 use std::alloc::Global;
 use venue_words::NoMemory;
 

@@ -3,6 +3,7 @@ use case_text::{Told, Words};
 use fix_fields::moment;
 use fix_frames::{Framer, Next};
 use fix_write::{MessageType, wrap};
+use message_laws::work_all;
 use session_core::{Input, Message, Request, Session, Turn};
 use std::alloc::Global;
 use venue_words::limits::MAX_FRAME_BYTES;
@@ -129,7 +130,7 @@ impl Desk {
             Input::Tick { moment },
             Input::Connection,
         ];
-        for turn in self.session.work_all(&inputs)?.as_slice() {
+        for turn in work_all(told.alloc, &mut self.session, &inputs)?.as_slice() {
             told.push("\n  turn:");
             match turn {
                 Ok(turn) => tell_turn(turn, told),

@@ -12,8 +12,8 @@ use Rattle.fix_frames.specs.Streams.{Answer, waits, exceeds, gives, advanced, ne
 use Rattle.fix_frames.specs.StreamLaws.{next_from-whole, skips_none}
 use Rattle.fix_frames.specs.Reading.{none_yet, with_frames, reading_of}
 use Rattle.fix_frames.specs.ReadingLaws.{reading-given}
-use Rattle.fix_frames.specs.Runs.{bytes_fed, frames_given}
-use Rattle.fix_frames.specs.RunLaws.{reading-at_wait}
+use Rattle.message_laws.specs.Calls.{bytes_fed, frames_given}
+use Rattle.message_laws.proofs.Calling.{reading-at_wait}
 use Rattle.message_laws.specs.Garbage.{Declares, IsGarbage, FrameBehindGarbage, Part, IsPart, bytes_of, frames_of, FramesComeThrough, CutsDoNotMatter, TooLongBehindGarbage, HasLongStart, TooLongIsDeclared}
 use Rattle.message_laws.proofs.Passing.{IsPassed, start_long, long_place, decided, passed_answer, behind_garbage, Limits, limits}
 

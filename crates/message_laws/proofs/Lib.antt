@@ -1,8 +1,12 @@
+pub mod Calling
 pub mod Contents
 pub mod Cutting
+pub mod Ends
+pub mod Expecting
 pub mod FirstFaults
 pub mod Garbage
 pub mod Heads
+pub mod Keeping
 pub mod Lengths
 pub mod Numbering
 pub mod Passing
@@ -11,4 +15,5 @@ pub mod Planning
 pub mod Recording
 pub mod Remembering
 pub mod Stepping
+pub mod TakingSteps
 pub mod Turning

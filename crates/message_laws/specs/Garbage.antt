@@ -7,7 +7,7 @@ use Rattle.fix_frames.specs.Frames.{header, IsFrame}
 use Rattle.fix_frames.specs.Places.{begin_string}
 use Rattle.fix_frames.specs.Streams.{Stream, beginning, next_from, gives, exceeds}
 use Rattle.fix_frames.specs.Reading.{reading_of}
-use Rattle.fix_frames.specs.Runs.{Call, waited, Leads, bytes_fed, frames_given}
+use Rattle.message_laws.specs.Calls.{Call, waited, Leads, bytes_fed, frames_given}
 
 -- bytes that begin as a frame does: BeginString, and BodyLength in 1 to 5 digits; with CheckSum it would have so many bytes
 pub record Declares (bytes : List ℕ) (size : ℕ) : Type 0 where

@@ -1,7 +1,10 @@
+pub mod Calls
 pub mod Contents
 pub mod Faults
 pub mod Garbage
 pub mod Ledgers
 pub mod Numbers
 pub mod Sessions
+pub mod Stays
+pub mod Taking
 pub mod Turns

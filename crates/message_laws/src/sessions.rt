@@ -2,6 +2,7 @@
 ghost use Rattle.message_laws.specs.Ledgers.{SentAgainAsFirst};
 ghost use Rattle.message_laws.specs.Numbers.{NumbersAreConsecutive};
 ghost use Rattle.message_laws.specs.Sessions.{ExpectedStaysOrRises, HandedOutOnce};
+ghost use Rattle.message_laws.specs.Stays.{AlikeStay, EndedStays, NumberStays, SendingIsAlike, SentStays};
 ghost use Rattle.message_laws.specs.Turns.{OrderIsHandedOut, RangeIsAsked, RejectIsAlone};
 
 /// The number that the member's next message is to have falls by a Logon with ResetSeqNumFlag (141) Y alone: over any inputs
@@ -59,4 +60,31 @@ pub fn reject_is_alone()
 // message.
 pub fn order_is_handed_out()
     ensures { OrderIsHandedOut }
+{}
+
+/// A session that is over stays as it is until a new connection, and answers every input alike.
+pub fn ended_stays()
+    ensures { EndedStays }
+{}
+
+/// The number that is to come stays where a frame is garbled and where a message of another number comes.
+pub fn number_stays()
+    ensures { NumberStays }
+{}
+
+/// What a session that is up has sent stays under its number.
+pub fn sent_stays()
+    ensures { SentStays }
+{}
+
+/// What a session takes, hands out and ends by depends on what it received alone: two that differ only in what they sent go
+/// on so, whatever comes, and hand the same out.
+// Rules out a request, a state or an end that depends on what the member was sent.
+pub fn alike_stay()
+    ensures { AlikeStay }
+{}
+
+/// What a session sends of itself, its reports and its Rejects, changes nothing of what it takes.
+pub fn sending_is_alike()
+    ensures { SendingIsAlike }
 {}

@@ -1,8 +1,8 @@
 -- Bodies that are added behind others leave these as they are.
-use Rattle.std.proofs.Common.{◌≡◌, ℕ, ◌+◌, ◌-◌, ◌<◌, ◌≤◌, ◌++◌, List, [], ◌∷◌, All, Result, Ok, Err, length, map, take, drop, get_or, refl, ap, sym, ◌∙◌, arith}
+use Rattle.std.proofs.Common.{◌≡◌, ℕ, ◌+◌, ◌-◌, ◌≤◌, ◌++◌, List, [], ◌∷◌, All, Result, Ok, Err, length, map, take, drop, refl, ap, sym, ◌∙◌, arith}
 use Rattle.std.specs.Prelude.{slice_range, OnOk}
-use Rattle.std.proofs.lemmas.List.{map-append, length-append, length-drop, take_all, take-append-le, take_more, drop_at, drop-drop, drop-append-le}
-use Rattle.std.proofs.lemmas.List.Elements.{All-head, All-tail, All-push, All-append, All-map, All-weaker}
+use Rattle.std.proofs.lemmas.List.{map-append, length-append, length-drop, take_all, take-append-le, drop_at, drop-drop, drop-append-le}
+use Rattle.std.proofs.lemmas.List.Elements.{All-head, All-tail, All-append, All-map, All-weaker}
 use Rattle.fix_write.specs.declared.message_type.MessageType.{MessageType}
 use Rattle.session_core.specs.declared.message.Message.{Message}
 use Rattle.session_core.specs.declared.message_list.Part.{Part}
@@ -109,16 +109,6 @@ pub appended_within : (bodies new_bodies more added : List ℕ) (parts roomy new
     new_parts ≡ roomy ++ map (moved front) moving → All (IsWithin (length new_bodies)) new_parts
 appended_within bodies new_bodies more added parts roomy new_parts others moving front within behind b a r o f p =
     rw (p, b, a, r, o, f) (within_appended bodies more parts others within behind)
-
--- one more message of several
-pub listed_more : (messages : List Message) (one : Message) (i : ℕ) (body : List ℕ) (list next : List Message) →
-    i < length messages → one ≡ get_or messages i one → body ≡ one.body → list ≡ take i messages →
-    next ≡ list ++ message one.kind body ∷ [] → next ≡ take (i + 1) messages
-listed_more messages one i body list next l is same e n =
-    n ∙ ap (λ (ms : List Message). ms ++ message one.kind body ∷ []) e
-    ∙ ap (λ (bytes : List ℕ). take i messages ++ message one.kind bytes ∷ []) same
-    ∙ ap (λ (m : Message). take i messages ++ m ∷ []) is
-    ∙ sym (take_more messages i one l)
 
 -- what follows where a call gives an answer
 pub on_ok_both : {A E P Q R : Type 0} (result : Result A E) → (P → Q → R) → OnOk result P → OnOk result Q → OnOk result R

@@ -8,7 +8,6 @@ pub mod Checks
 pub mod Content
 pub mod EndCauses
 pub mod Frames
-pub mod Laws
 pub mod Logon
 pub mod Lookup
 pub mod Machine

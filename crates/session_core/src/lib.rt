@@ -8,7 +8,6 @@ mod cases;
 mod checks;
 mod content;
 mod frames;
-pub mod laws;
 mod logon;
 pub mod lookup;
 mod message;

@@ -3,7 +3,6 @@
 ghost use Rattle.std.specs.Prelude.{ℕ, List, ◌≡◌, ◌+◌, ◌^◌, ◌<◌, ◌≤◌, ◌++◌, ◌∷◌, [], OnOk, OnErr, length, map, All, vec_len, vec_capacity};
 ghost use Rattle.session_core.specs.MessageLists.{IsWithin, messages_in, part_behind, moved};
 
-use crate::message::Message;
 use fix_write::MessageType;
 use std::alloc::Global;
 use std::marker::Model;
@@ -124,7 +123,7 @@ impl Model for MessageList {
 }
 
 impl MessageList {
-    ghost use Rattle.std.specs.Prelude.{◌≡◌, ◌<◌, ◌^◌, ◌++◌, ◌∷◌, [], IfOk, OnOk, OnErr, length, get_or};
+    ghost use Rattle.std.specs.Prelude.{◌≡◌, ◌<◌, ◌^◌, ◌++◌, ◌∷◌, [], OnOk, OnErr, length, get_or};
     ghost use Rattle.session_core.specs.Bodies.{message};
 
     /// No message. This takes no memory.
@@ -198,16 +197,5 @@ impl MessageList {
         self.bodies.extend_from_slice(&messages.bodies)?;
         push_moved(&mut self.parts, &messages.parts, front);
         Ok(())
-    }
-
-    /// The list of these messages.
-    pub(crate) fn of(alloc: Global, messages: &[Message]) -> Result<MessageList, NoMemory>
-        ensures { IfOk result (λ list. list ≡ messages.now) }
-    {
-        let mut list = MessageList::new(alloc);
-        for message in messages {
-            list.push(message.kind, message.body.as_slice())?;
-        }
-        Ok(list)
     }
 }

@@ -108,15 +108,10 @@ impl Session {
     }
 
     /// A turn in which nothing happens.
-    pub(crate) fn quiet<'a>(&self) -> Turn<'a>
+    fn quiet<'a>(&self) -> Turn<'a>
         ensures { result ≡ (rests self.now).turn }
     {
         self.sending(Vec::new(self.alloc))
-    }
-
-    /// The allocator that it was made with.
-    pub(crate) fn allocator(&self) -> Global {
-        self.alloc
     }
 
     /// All that a plan sends.

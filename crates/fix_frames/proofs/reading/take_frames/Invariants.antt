@@ -1,9 +1,0 @@
-use Rattle.std.proofs.Common.{length}
-use Rattle.fix_frames.specs.Taking.{Continues}
-use Rattle.fix_frames.proofs.reading.take_frames.Given as goal
-
-abbrev pub invariant-loop-frame : goal.invariant-loop-frame
-invariant-loop-frame l = Continues l.initial.frames l.initial.framer l.frames l.framer
-
-abbrev pub decreases-loop-frame : goal.decreases-loop-frame
-decreases-loop-frame l = length l.framer.kept

@@ -1,6 +1,0 @@
--- The messages so far stand in the list.
-use Rattle.std.proofs.Common.{◌≡◌, take}
-use Rattle.session_core.proofs.message_list.MessageList.of.Given as goal
-
-abbrev pub invariant-loop-message : goal.invariant-loop-message
-invariant-loop-message l = l.list ≡ take l.message-index l.messages
