@@ -4,7 +4,6 @@ pub mod Joining
 pub mod Looking
 pub mod Over
 pub mod Pulling
-pub mod Sending
 pub mod Standing
 pub mod Taking
 pub mod Underway

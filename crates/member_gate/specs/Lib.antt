@@ -2,7 +2,6 @@ pub mod Alike
 pub mod AlikeLaws
 pub mod Answering
 pub mod Desks
-pub mod Laws
 pub mod Pulling
 pub mod QuietLaws
 pub mod Refusals

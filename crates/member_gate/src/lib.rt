@@ -9,7 +9,6 @@ mod desk;
 mod desk_cell;
 mod desk_table;
 mod desks;
-pub mod laws;
 mod names;
 mod origin;
 mod refusal;

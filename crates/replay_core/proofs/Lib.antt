@@ -8,8 +8,6 @@ pub mod Steps
 pub mod Outcomes
 pub mod Unwritten
 pub mod Loads
-pub mod LoadFrames
-pub mod LoadTexts
 pub mod LoadTaken
 pub mod Summing
 pub mod Refusals
@@ -21,6 +19,3 @@ pub mod Asking
 pub mod Waiting
 pub mod Lists
 pub mod Worked
-pub mod RecordedCommands
-pub mod LineHistories
-pub mod ScriptHistories

@@ -21,8 +21,8 @@ use Rattle.replay_core.specs.Playing.{Playing, Member, before_body}
 use Rattle.replay_core.specs.Pulling.{pulled, lines_of_pulls}
 use Rattle.replay_core.specs.Recording.{recorded, has_room, next_event}
 use Rattle.replay_core.proofs.LineByLine.{worked_line}
-use Rattle.replay_core.proofs.LoadFrames.{IsWhole, whole_none, whole_on, AtMostOne, few_given, none_given}
-use Rattle.replay_core.proofs.LoadTexts.{IsMessage, IsQuoteLine, load_config, begins_at, frame_in, message_framed, message_read, message_short, logon_line, logon_message, first_quote, each_quote, order_message, last_message, header_one, header_two, header_three, header_four, version_read, member_read, market_read, symbol_read, begin_read}
+use Rattle.load_laws.specs.LoadFrameLaws.{IsWhole, whole_none, whole_on, AtMostOne, few_given, none_given}
+use Rattle.load_laws.specs.LoadTextLaws.{IsMessage, IsQuoteLine, load_config, begins_at, frame_in, message_framed, message_read, message_short, logon_line, logon_message, first_quote, each_quote, order_message, last_message, header_one, header_two, header_three, header_four, version_read, member_read, market_read, symbol_read, begin_read}
 
 -- ---- a line that is taken
 

@@ -4,7 +4,6 @@
 mod asked;
 pub mod complete;
 pub mod flushing;
-pub mod laws;
 pub mod lines;
 pub mod loading;
 pub mod news;

@@ -1,0 +1,3 @@
+pub mod LoadFrameLaws
+pub mod LoadScript
+pub mod LoadTextLaws

@@ -1,5 +1,0 @@
-use Rattle.member_gate.proofs.Joining.{cut_anywhere}
-use Rattle.member_gate.proofs.laws.any_cut.Goals as goal
-
-pub returns : goal.returns
-returns c = cut_anywhere

@@ -1,5 +1,0 @@
-use Rattle.member_gate.specs.AlikeLaws.{frames_submit-alike}
-use Rattle.member_gate.proofs.laws.frames_submit_alike.Goals as goal
-
-pub returns : goal.returns
-returns c = frames_submit-alike

@@ -1,5 +1,0 @@
-use Rattle.member_gate.specs.AlikeLaws.{reading_submits-alike}
-use Rattle.member_gate.proofs.laws.readings_submit_alike.Goals as goal
-
-pub returns : goal.returns
-returns c = reading_submits-alike

@@ -1,5 +1,0 @@
-use Rattle.replay_core.proofs.LoadTaken.{load_whole}
-use Rattle.replay_core.proofs.laws.load_never_faults.Goals as goal
-
-pub returns : goal.returns
-returns c = load_whole

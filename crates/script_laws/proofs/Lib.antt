@@ -1,0 +1,4 @@
+pub mod LineHistories
+pub mod RecordedCommands
+pub mod ScriptHistories
+pub mod Sending

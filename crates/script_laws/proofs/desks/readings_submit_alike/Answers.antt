@@ -1,0 +1,5 @@
+use Rattle.member_gate.specs.AlikeLaws.{reading_submits-alike}
+use Rattle.script_laws.proofs.desks.readings_submit_alike.Goals as goal
+
+pub returns : goal.returns
+returns c = reading_submits-alike

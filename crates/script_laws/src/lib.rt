@@ -1,0 +1,12 @@
+//! Laws of scripts and of desks: which commands a script records, that the load script is taken to its end, and what of a member's
+//! stream does not matter to what comes of it. Each law is a statement over the definitions, proved as the contract of a function
+//! that does nothing.
+#![tactic(auto)]
+
+mod desks;
+mod scripts;
+
+pub use desks::{any_cut, empty_exactly, frames_submit_alike, readings_submit_alike};
+pub use scripts::{
+    bodies_record_commands, lines_record_commands, load_never_faults, scripts_record_commands,
+};
