@@ -1,5 +1,3 @@
-pub mod Alike
-pub mod AlikeLaws
 pub mod Commands
 pub mod FeedState
 pub mod LineWork

@@ -1,5 +1,3 @@
-pub mod Alike
-pub mod AlikeLaws
 pub mod Answering
 pub mod Desks
 pub mod Pulling

@@ -2,7 +2,6 @@
 #![tactic(auto)]
 
 mod asked;
-pub mod complete;
 pub mod flushing;
 pub mod lines;
 pub mod loading;

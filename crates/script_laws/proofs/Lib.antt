@@ -1,3 +1,5 @@
+pub mod DeskAlike
+pub mod FeedAlike
 pub mod LineHistories
 pub mod RecordedCommands
 pub mod ScriptHistories

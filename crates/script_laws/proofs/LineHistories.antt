@@ -8,8 +8,8 @@ use Rattle.session_core.specs.AlikeLaws.{sends_if_up-alike}
 use Rattle.member_gate.specs.Answering.{Submission}
 use Rattle.member_gate.specs.Reporting.{messages_past}
 use Rattle.script_text.specs.declared.fault.LineFault.{LineFault}
-use Rattle.line_work.specs.Alike.{ConnectionsAlike, FeedsAlike}
-use Rattle.line_work.specs.AlikeLaws.{WorkAlike, TextAlike, same_alike, text_alike}
+use Rattle.script_laws.specs.Alike.{ConnectionsAlike, FeedsAlike}
+use Rattle.script_laws.proofs.FeedAlike.{WorkAlike, TextAlike, same_alike, text_alike}
 use Rattle.line_work.specs.Commands.{at_moment, and_then, submitted_by, commands_for, commands_of}
 use Rattle.line_work.specs.FeedState.{FeedState, Connection, before_lines, new_connection}
 use Rattle.line_work.specs.LineWork.{LineWork, work_of_text}

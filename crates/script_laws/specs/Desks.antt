@@ -7,7 +7,7 @@ use Rattle.session_core.specs.declared.message.Message.{Message}
 use Rattle.session_core.specs.Machine.{Machine, IsUp}
 use Rattle.session_core.specs.Runs.{send_if_up}
 use Rattle.session_core.specs.Alike.{AreAlike}
-use Rattle.member_gate.specs.Alike.{SubmitAlike}
+use Rattle.script_laws.specs.Alike.{SubmitAlike}
 use Rattle.member_gate.specs.Working.{then_work, work_of_frames, work_of_reading, AreUnread}
 
 -- however a stream is cut in two: the work of the whole is that of the first bytes, and then that of what is unread of them

@@ -1,2 +1,3 @@
+pub mod Alike
 pub mod Desks
 pub mod Histories

@@ -1,4 +1,4 @@
-use Rattle.member_gate.specs.AlikeLaws.{reading_submits-alike}
+use Rattle.script_laws.proofs.DeskAlike.{reading_submits-alike}
 use Rattle.script_laws.proofs.desks.readings_submit_alike.Goals as goal
 
 pub returns : goal.returns

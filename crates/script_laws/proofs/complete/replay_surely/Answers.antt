@@ -1,7 +1,7 @@
 use Rattle.std.proofs.Common.{◌+◌, ◌-◌, ◌^◌, ◌≤◌, min, None, ⊎_elim, arith}
 use Rattle.venue_words.specs.Causes.{Rose}
 use Rattle.replay_core.proofs.Loads.{load_ends}
-use Rattle.replay_core.proofs.complete.replay_surely.Goals as goal
+use Rattle.script_laws.proofs.complete.replay_surely.Goals as goal
 
 never : Rose 0 0 → ⊥
 never r = let above : min (0 + 1) (2 ^ 64 - 1) ≤ 0 = r in omega arith

@@ -6,9 +6,9 @@ ghost use Rattle.replay_core.specs.Causes.{script_told};
 ghost use Rattle.replay_core.specs.Plan.{Load, plan_of};
 ghost use Rattle.replay_core.specs.Play.{script};
 
-use crate::replay::replay;
-use crate::status::Status;
 use io_edge::{Shelf, Sink, SureShelf, SureSink};
+use replay_core::Status;
+use replay_core::replay::replay;
 use std::alloc::Global;
 use std::sync::ledger::Ledger;
 use venue_words::Steps;

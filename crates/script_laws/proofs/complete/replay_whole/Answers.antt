@@ -1,6 +1,6 @@
 use Rattle.std.proofs.Common.{⊎_elim}
 use Rattle.replay_core.proofs.Loads.{load_ends}
-use Rattle.replay_core.proofs.complete.replay_whole.Goals as goal
+use Rattle.script_laws.proofs.complete.replay_whole.Goals as goal
 
 pub returns-clause-load : goal.returns-clause-load
 returns-clause-load g c out err orders quotes plan =

@@ -5,14 +5,13 @@ use Rattle.venue_words.specs.declared.config.Config.{Config}
 use Rattle.session_core.specs.Machine.{Machine, on_clock}
 use Rattle.session_core.specs.Alike.{AreAlike, GiveAlike}
 use Rattle.session_core.specs.AlikeLaws.{clock-alike, connected-alike}
-use Rattle.member_gate.specs.Alike.{SubmitAlike}
-use Rattle.member_gate.specs.AlikeLaws.{reading_submits-alike}
+use Rattle.script_laws.specs.Alike.{SubmitAlike, ConnectionsAlike, FeedsAlike}
+use Rattle.script_laws.proofs.DeskAlike.{reading_submits-alike}
 use Rattle.member_gate.specs.Working.{work_of_reading}
 use Rattle.script_text.specs.declared.body.Line.{Line}
 use Rattle.script_text.specs.declared.body.Line.TheVariants.{Moment, Quote, Piece, Open}
 use Rattle.script_text.specs.declared.fault.LineFault.{LineFault}
 use Rattle.script_text.specs.Body.{read_of}
-use Rattle.line_work.specs.Alike.{ConnectionsAlike, FeedsAlike}
 use Rattle.line_work.specs.FeedState.{FeedState, Connection, new_connection, connection_at}
 use Rattle.line_work.specs.LineWork.{LineWork, ticked, fed, reading_behind, reconnected, work_of_bytes, work_of_line, work_of_read, work_of_text}
 

@@ -13,7 +13,7 @@ use Rattle.order_fields.specs.declared.order.Refusal.TheVariants.{Reject, Busine
 use Rattle.order_fields.specs.Order.{order}
 use Rattle.member_gate.specs.Answering.{Work, turned, name_at, answer_to, answer}
 use Rattle.member_gate.specs.Working.{then_work, handed_out, work_of_frame, work_of_frames, work_at_limit, work_of_reading}
-use Rattle.member_gate.specs.Alike.{SubmitAlike}
+use Rattle.script_laws.specs.Alike.{SubmitAlike}
 
 -- both sent something
 both : (a b c d : Machine) → AreAlike a b → AreAlike c a → AreAlike d b → AreAlike c d
