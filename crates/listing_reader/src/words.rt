@@ -1,19 +1,11 @@
 //! The words of a line, and what single words tell.
-ghost use Rattle.std.specs.Prelude.{◌≡◌, ◌<◌, ◌≤◌, ◌^◌, ◌==◌, true, IfSome, length, position};
+ghost use Rattle.std.specs.Prelude.{◌≡◌, ◌<◌, ◌≤◌, ◌^◌, ◌==◌, true, length};
 ghost use Rattle.venue_words.specs.Conditions.{fits_quote};
-ghost use Rattle.quote_intake.specs.Quote.{number_in};
 ghost use Rattle.listing_reader.specs.Told.{first_word, behind_word, place_in, told_number, told_moment, told_side};
 
 use fix_fields::{moment, number};
-use quote_intake::price;
+use quote_intake::{number_in, price, space_at};
 use venue_words::Bytes;
-
-fn space_at(text: &[u8]) -> Option<usize>
-    ensures place { result ≡ position (λ byte. byte == 32) text.now }
-    ensures within { IfSome result (λ at. at < length text.now) }
-{
-    text.iter().position(|byte| *byte == b' ')
-}
 
 /// The first word of a text, and what stands behind its space.
 pub fn split_word(text: &[u8]) -> (&[u8], &[u8])
@@ -26,20 +18,13 @@ pub fn split_word(text: &[u8]) -> (&[u8], &[u8])
     }
 }
 
-fn number_in(names: &[Bytes], name: &[u8]) -> Option<usize>
-    ensures place { result ≡ number_in names.now name.now }
-    ensures within { IfSome result (λ place. place < length names.now) }
-{
-    names.iter().position(|other| other.as_slice() == name)
-}
-
 /// The place of a name; where it is not there, the one behind the last.
 pub fn place_in(names: &[Bytes], name: &[u8]) -> u32
     requires { length names.now < 2 ^ 32 }
     ensures { result ≡ place_in names.now name.now }
 {
     match number_in(names, name) {
-        Some(place) => place as u32,
+        Some(place) => place,
         None => names.len() as u32,
     }
 }

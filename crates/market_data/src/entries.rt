@@ -2,12 +2,12 @@
 ghost use Rattle.std.specs.Prelude.{◌≡◌, ℕ, List, ◌<◌, ◌≤◌, ◌&&◌, length, position, Some, None, is_none, [], ◌∷◌, IfSome, IfOk, OnOk, IfErr};
 ghost use Rattle.venue_words.specs.declared.limits.TheConstants.{MAX_MARKETS};
 ghost use Rattle.fix_fields.specs.declared.field.Field.{Field};
-ghost use Rattle.quote_intake.specs.Quote.{number_in};
 ghost use Rattle.market_data.specs.Entries.{begins_entry, entry_of, entry_type, has_price, whole_cents, cents_of_amount, price_in, market_in, market_or_first, entry_quote, used_quote};
 ghost use Rattle.market_data.specs.Faults.{fails_if, first_some, entry_faults, entry_fault};
 
 use crate::tags::{MD_ENTRY_PX, MD_ENTRY_TYPE, MD_MKT};
 use fix_fields::{Field, amount};
+use quote_intake::number_in;
 use session_core::FailedCheck;
 use session_core::lookup::{is_value_in, value_in};
 use session_core::reasons::{TAG_MISSING, VALUE_OUT_OF_RANGE};
@@ -121,26 +121,6 @@ fn price_in(entry: &[Field<'_>]) -> Option<u32>
             Some(units) => cents_of_amount(units),
             None => None,
         },
-        None => None,
-    }
-}
-
-/// The place of a name.
-fn place_of(names: &[Bytes], name: &[u8]) -> Option<usize>
-    ensures value { result ≡ number_in names.now name.now }
-    ensures within { IfSome result (λ place. place < length names.now) }
-{
-    names.iter().position(|other| other.as_slice() == name)
-}
-
-/// The number of a configured name.
-pub fn number_in(names: &[Bytes], name: &[u8]) -> Option<u32>
-    requires { length names.now ≤ 256 }
-    ensures value { result ≡ number_in names.now name.now }
-    ensures within { IfSome result (λ number. number < length names.now) }
-{
-    match place_of(names, name) {
-        Some(place) => Some(place as u32),
         None => None,
     }
 }

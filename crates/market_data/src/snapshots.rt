@@ -6,10 +6,11 @@ ghost use Rattle.market_data.specs.Entries.{entries_of, used_quotes};
 ghost use Rattle.market_data.specs.Faults.{count_of, first_some, head_faults, entries_fault, symbol_in};
 ghost use Rattle.market_data.specs.Snapshots.{snapshot_of, IsRefusal, FailsFirst, PassesFirst};
 
-use crate::entries::{EntryQuote, begins_entry, entry_of, number_in, read_entry};
+use crate::entries::{EntryQuote, begins_entry, entry_of, read_entry};
 use crate::quotes::quotes_of;
 use crate::tags::{MD_ENTRY_TYPE, NO_MD_ENTRIES, SYMBOL};
 use fix_fields::Field;
+use quote_intake::number_in;
 use session_core::lookup::number_in as number_of_tag;
 use session_core::reasons::{TAG_MISSING, TAG_REPEATED, VALUE_OUT_OF_FORM, VALUE_OUT_OF_RANGE};
 use session_core::{FailedCheck, MessageFields, Request};

@@ -4,11 +4,12 @@ ghost use Rattle.venue_words.specs.declared.limits.TheConstants.{MAX_MARKETS, MA
 ghost use Rattle.venue_words.specs.Conditions.{fits_limits};
 ghost use Rattle.venue_words.specs.Floors.{setup_of, is_configured};
 ghost use Rattle.quote_intake.specs.Words.{words_of};
-ghost use Rattle.quote_intake.specs.Quote.{number_in, quote_of};
+ghost use Rattle.quote_intake.specs.Quote.{quote_of};
 
+use crate::names::number_in;
 use crate::prices::price;
 use crate::words::cut_word;
-use venue_words::{Bytes, Command, Config};
+use venue_words::{Command, Config};
 
 /// Why a line is no quote.
 #[derive(Clone, Copy, Debug, PartialEq, Eq, Drop)]
@@ -50,14 +51,6 @@ fn four_words(text: &[u8]) -> Option<Fields<'_>>
     }
 }
 
-/// The number of a configured name.
-fn number_in(names: &[Bytes], name: &[u8]) -> Option<usize>
-    ensures value { result ≡ number_in names.now name.now }
-    ensures within { IfSome result (λ number. number < length names.now) }
-{
-    names.iter().position(|other| other.as_slice() == name)
-}
-
 /// Reads what stands behind `Q ` in a line: symbol, market, bid and offer, parted by one space each. It answers the
 /// symbol's number and the quote, or the first fault in the order of their variants. A bid may be at or above the
 /// offer.
@@ -85,10 +78,6 @@ pub fn read_quote(words: &[u8], config: &Config) -> Result<(u32, Command), Quote
     let Some(offer) = price(fields.offer) else {
         return Err(QuoteFault::BadPrice);
     };
-    let quote = Command::Quote {
-        market: market as u32,
-        bid,
-        offer,
-    };
-    Ok((symbol as u32, quote))
+    let quote = Command::Quote { market, bid, offer };
+    Ok((symbol, quote))
 }

@@ -2,14 +2,15 @@
 ghost use Rattle.std.specs.Prelude.{◌≡◌, ◌<◌, ◌^◌, ◌==◌, ◌+◌, ◌∷◌, [], take, drop, IfSome, IfNone, length, position};
 ghost use Rattle.quote_intake.specs.Words.{words_of};
 
-fn space_at(text: &[u8]) -> Option<usize>
+/// The place of the first space.
+pub fn space_at(text: &[u8]) -> Option<usize>
     ensures place { result ≡ position (λ byte. byte == 32) text.now }
     ensures within { IfSome result (λ at. at < length text.now) }
 {
     text.iter().position(|byte| *byte == b' ')
 }
 
-/// The place of the first space. Before it stands the first word, and behind it the others.
+/// As `space_at`: before it stands the first word, and behind it the others.
 #[tactic(auto, using(crate::proofs::Spaces::cut_at, crate::proofs::Spaces::cut_none))]
 pub fn first_space(text: &[u8]) -> Option<usize>
     ensures found { IfSome result (λ at. words_of text.now ≡ take at text.now ∷ words_of (drop (at + 1) text.now)) }

@@ -2,7 +2,6 @@
 ghost use Rattle.std.specs.Prelude.{◌≡◌, ◌<◌, ◌≤◌, ◌^◌, ◌∷◌, [], map, length, option_map, IfOk, IfSome, OnOk};
 ghost use Rattle.venue_words.specs.declared.limits.TheConstants.{MAX_MARKETS, MAX_MEMBERS, MAX_SYMBOLS};
 ghost use Rattle.quote_intake.specs.Words.{words_of};
-ghost use Rattle.quote_intake.specs.Quote.{number_in};
 ghost use Rattle.script_text.specs.Meets.{Meets};
 ghost use Rattle.script_text.specs.Escaping.{text_of};
 ghost use Rattle.script_text.specs.Body.{moment_line, quote_line, quote_cause, piece_line, piece_read, message_of, open_line, at_line, line_of, read_of, keyed_body, IsLineOf, IsQuoteOf};
@@ -11,7 +10,7 @@ use crate::escaping::unescape;
 use crate::fault::{LimitCause, LineCause, LineFault};
 use crate::words::{cut_word, script_moment};
 use fix_write::wrap;
-use quote_intake::{QuoteFault, read_quote};
+use quote_intake::{QuoteFault, number_in, read_quote};
 use std::alloc::Global;
 use venue_words::limits::MAX_LINE_BYTES;
 use venue_words::{Bytes, Command, Config, NoMemory};
@@ -66,26 +65,6 @@ fn quote_line(words: &[u8], config: &Config) -> Result<Line, LineCause>
     }
 }
 
-/// The number of a configured name.
-fn number_in(names: &[Bytes], name: &[u8]) -> Option<usize>
-    ensures value { result ≡ number_in names.now name.now }
-    ensures within { IfSome result (λ number. number < length names.now) }
-{
-    names.iter().position(|other| other.as_slice() == name)
-}
-
-/// The number of a member's name.
-fn member_number(name: &[u8], config: &Config) -> Option<u32>
-    requires { length config.now.members ≤ MAX_MEMBERS }
-    ensures value { result ≡ number_in config.now.members name.now }
-    ensures within { IfSome result (λ member. member < length config.now.members) }
-{
-    match number_in(config.members.as_slice(), name) {
-        Some(member) => Some(member as u32),
-        None => None,
-    }
-}
-
 /// Reads what stands behind `O `.
 #[tactic(auto, using(crate::proofs::Bodies::open_more))]
 fn open_line(words: &[u8], config: &Config) -> Result<Line, LineCause>
@@ -96,7 +75,7 @@ fn open_line(words: &[u8], config: &Config) -> Result<Line, LineCause>
     if let Some(_) = cut_word(words) {
         return Err(LineCause::BadWord);
     }
-    match member_number(words, config) {
+    match number_in(config.members.as_slice(), words) {
         Some(member) => Ok(Line::Open { member }),
         None => Err(LineCause::UnknownName),
     }
@@ -157,7 +136,7 @@ fn message_line(alloc: Global, words: &[u8], config: &Config) -> Result<Line, Li
     let Some((name, text)) = cut_word(words) else {
         return refused(LineCause::BadWord);
     };
-    let Some(member) = member_number(name, config) else {
+    let Some(member) = number_in(config.members.as_slice(), name) else {
         return refused(LineCause::UnknownName);
     };
     at_first(piece(member, message(alloc, text)?))
@@ -174,7 +153,7 @@ fn bytes_line(alloc: Global, words: &[u8], config: &Config) -> Result<Line, Line
     let Some((name, text)) = cut_word(words) else {
         return refused(LineCause::BadWord);
     };
-    let Some(member) = member_number(name, config) else {
+    let Some(member) = number_in(config.members.as_slice(), name) else {
         return refused(LineCause::UnknownName);
     };
     at_first(piece(member, unescape(alloc, text)?))

@@ -1,6 +1,5 @@
 -- Whose a connection is: its first frame that splits into fields names the member.
-use Rattle.std.specs.Prelude.{◌≡◌, ◌<◌, ◌++◌, ℕ, Bool, List, [], ◌∷◌, Option, Some, None, Result, Ok, Err, if◌then◌else◌, is_none, position}
-use Rattle.std.specs.Str.{bytes_eq}
+use Rattle.std.specs.Prelude.{◌≡◌, ◌<◌, ◌++◌, ℕ, Bool, List, [], ◌∷◌, Option, Some, None, Result, Ok, Err, if◌then◌else◌, is_none}
 use Rattle.fix_fields.specs.declared.field.Field.{Field}
 use Rattle.fix_fields.specs.declared.field.FieldFault.{FieldFault}
 use Rattle.fix_fields.specs.Fields.{split}
@@ -10,12 +9,9 @@ use Rattle.session_core.specs.Content.{content_of}
 use Rattle.session_core.specs.Lookup.{message_number, value_of}
 use Rattle.fix_write.specs.declared.tags.TheConstants.{SENDER_COMP_ID}
 use Rattle.venue_words.specs.declared.config.Config.{Config}
+use Rattle.quote_intake.specs.Quote.{number_in}
 use Rattle.serve_core.specs.declared.greeting.Greeting.{Greeting}
 use Rattle.serve_core.specs.declared.greeting.Greeting.TheVariants.{Unnamed, Member, Refused}
-
--- the number of the member of this name
-abbrev pub member_named : List (List ℕ) → List ℕ → Option ℕ
-member_named members name = position (λ member. bytes_eq member name) members
 
 -- a frame that names no member: it has no number, or a wrong name
 abbrev pub stranger : List Field → Greeting
@@ -26,7 +22,7 @@ of_member (Some member) other = Member member
 of_member None other = other
 
 abbrev pub by_name : Config → Option (List ℕ) → Greeting → Greeting
-by_name config (Some name) other = of_member (member_named config.members name) other
+by_name config (Some name) other = of_member (number_in config.members name) other
 by_name config None other = other
 
 -- the first SenderCompID of these fields is a member's name

@@ -1,16 +1,16 @@
 //! Who a connection is of.
 ghost use Rattle.std.specs.Prelude.{◌≡◌, ◌≢◌, ◌<◌, ◌≤◌, ◌++◌, ℕ, List, Ok, Some, length, IfOk, IfSome};
-ghost use Rattle.session_core.specs.Content.{behind_first_end, content_of};
 ghost use Rattle.venue_words.specs.declared.limits.TheConstants.{MAX_FRAME_BYTES, MAX_MEMBERS};
-ghost use Rattle.serve_core.specs.Greeting.{IsAmong, IsSaidBy, SayTheSame, greeted_by, greeting_of, member_named};
+ghost use Rattle.serve_core.specs.Greeting.{IsAmong, IsSaidBy, SayTheSame, greeted_by, greeting_of};
 
 use fix_fields::{FieldFault, fields};
 use fix_frames::{Framer, Next};
+use quote_intake::number_in;
 use session_core::lookup::message_number;
 use session_core::tags::SENDER_COMP_ID;
-use session_core::{EndCause, MessageFields};
+use session_core::{EndCause, MessageFields, content_of};
 use std::alloc::Global;
-use venue_words::{Bytes, Config, NoMemory};
+use venue_words::{Config, NoMemory};
 
 /// What the bytes of a connection say of whose it is.
 #[derive(Clone, Copy, Debug, PartialEq, Eq)]
@@ -23,41 +23,6 @@ pub enum Greeting {
     Refused(EndCause),
 }
 
-/// What stands behind the first end of a field.
-#[tactic(auto, unfolding(session_core::specs::Content::behind_first_end))]
-fn behind_first_end(bytes: &[u8]) -> &[u8]
-    ensures value { result.now ≡ behind_first_end bytes.now }
-    ensures shorter { length result.now ≤ length bytes.now }
-{
-    for (i, byte) in bytes.iter().enumerate() {
-        if *byte == 1 {
-            return &bytes[i + 1..];
-        }
-    }
-    &[]
-}
-
-/// What stands in a frame behind BodyLength(9) and before CheckSum(10).
-#[tactic(auto, unfolding(session_core::specs::Content::content_of))]
-fn content_of(frame: &[u8]) -> &[u8]
-    ensures value { result.now ≡ content_of frame.now }
-    ensures shorter { length result.now ≤ length frame.now }
-{
-    if frame.len() < 11 {
-        return &[];
-    }
-    let rest = behind_first_end(&frame[11..]);
-    &rest[..rest.len().saturating_sub(7)]
-}
-
-/// The place of the member of this name.
-fn member_named(members: &[Bytes], name: &[u8]) -> Option<usize>
-    ensures place { result ≡ member_named members.now name.now }
-    ensures inside { IfSome result (λ place. place < length members.now) }
-{
-    members.iter().position(|member| member.as_slice() == name)
-}
-
 /// Whose the connection is whose first frame has these fields.
 fn greeted_by(config: &Config, fields: &MessageFields<'_>) -> Greeting
     requires { length config.now.members ≤ MAX_MEMBERS }
@@ -66,11 +31,11 @@ fn greeted_by(config: &Config, fields: &MessageFields<'_>) -> Greeting
     ensures member { IsAmong (length config.now.members) result }
 {
     let named = match fields.value_of(SENDER_COMP_ID) {
-        Some(name) => member_named(config.members.as_slice(), name),
+        Some(name) => number_in(config.members.as_slice(), name),
         None => None,
     };
     match named {
-        Some(place) => Greeting::Member(place as u32),
+        Some(member) => Greeting::Member(member),
         None if message_number(fields).is_none() => Greeting::Refused(EndCause::NoNumber),
         None => Greeting::Refused(EndCause::WrongName),
     }

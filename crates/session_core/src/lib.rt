@@ -27,6 +27,7 @@ pub mod tags;
 mod turn;
 
 pub use checks::{FailedCheck, Form, Item, first_failed};
+pub use content::content_of;
 pub use message::{Kept, Message, Request};
 pub use message_fields::MessageFields;
 pub use message_list::{Body, ListedMessage, MessageList};
