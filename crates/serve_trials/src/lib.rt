@@ -1,4 +1,4 @@
-//! Trials of sessions over links: worked examples over links in memory, and the server over loopback. All of it is tests.
+//! Trials of sessions over links: worked examples over links in memory. All of it is tests.
 #![tactic(auto)]
 
 #[cfg(test)]
