@@ -2,7 +2,7 @@
 """replay.py [PROGRAM ..]: times pegreplay and measures its memory. It is no part of the gate.
 
 Run it at the top of the repository behind `./build`. Each PROGRAM (bin/pegreplay if none is named) works the same runs on
-the same machine, one after the other: a mixed script of a million lines, a load of pegged orders and quotes, and a wide script of
+one processor, in turn: a mixed script of a million lines, a load of pegged orders and quotes, and a wide script of
 200 members who trade 200 symbols. The next lines tell what a quote costs over an empty book, and beside 2,000 and 200,000 resting orders: the time of a
 script with a million quotes, less that of the same script without them. Where several programs are named, the last lines tell how many times as long
 the first one takes as each other one.
@@ -14,7 +14,8 @@ import tempfile
 import time
 
 QUOTES = 1_000_000
-ROUNDS = 7
+RUNS = 5
+ROUNDS = 15
 STAMP = "20240102-14:30:00"
 
 
@@ -31,15 +32,13 @@ def measure(program, words):
         return seconds, usage.ru_maxrss * 1024
 
 
-def best_of(runs, program, words):
-    return min(measure(program, words) for _ in range(runs))
-
-
-def report(program, name, words, events):
-    """Prints what a run takes, and gives its seconds."""
-    seconds, memory = best_of(3, program, words)
-    print(f"{program:24} {name:28} {seconds:7.2f} s {memory / 1e6:8.1f} MB {memory / events:7.0f} bytes an event")
-    return seconds
+def report(programs, name, words, events):
+    """Prints what a run takes, and gives the seconds of each program: the least of rounds in which all take it in turn."""
+    rounds = [[measure(program, words) for program in programs] for _ in range(RUNS)]
+    told = [min(times) for times in zip(*rounds)]
+    for program, (seconds, memory) in zip(programs, told):
+        print(f"{program:24} {name:28} {seconds:7.2f} s {memory / 1e6:8.1f} MB {memory / events:7.0f} bytes an event")
+    return [seconds for seconds, _ in told]
 
 
 def write_wide(path, members, symbols, orders):
@@ -102,6 +101,7 @@ def ratios(name, programs, seconds):
 
 def main():
     programs = sys.argv[1:] or ["bin/pegreplay"]
+    os.sched_setaffinity(0, {max(os.sched_getaffinity(0))})
     here = os.path.dirname(os.path.abspath(__file__))
     told = []
     with tempfile.TemporaryDirectory() as folder:
@@ -113,7 +113,7 @@ def main():
         runs = [("mixed, 1,000,000 lines", [script], 1_000_000), ("load 200000 200000", ["load", "200000", "200000"], 400_002),
                 ("wide, 200 by 200", [wide], 20_200)]
         for name, words, events in runs:
-            told.append((name, [report(program, name, words, events) for program in programs]))
+            told.append((name, report(programs, name, words, events)))
         for orders in [0, 2_000, 200_000]:
             costs = quote_costs(programs, folder, orders)
             for program, cost in zip(programs, costs):
