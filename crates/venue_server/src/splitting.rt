@@ -33,11 +33,11 @@ pub fn jobs_of<'a, R: Wait, V: Held + Drop>(
         let number = jobs.len();
         let seats = venue.split(alloc, seats)?;
         let floor = Seated { rt, venue, seats };
-        jobs.push(Job {
+        jobs.push_reserved(Job {
             floor,
             inbox,
             number,
-        })?;
+        });
     }
     Ok(jobs)
 }

@@ -25,6 +25,7 @@ loop-inbox-init g c =
       (let h = c.into_iter-inbox-iterator.ensures.into_iter_gives.1 in let k = ap length e in let w = c.args.inboxes.ok in omega arith),
       ap (map (λ (job : Job (Seated g.row.R.Denot g.row.V.Denot)). job.number)) c.in_ok-jobs.ensures.items,
       ap (map (λ (job : Job (Seated g.row.R.Denot g.row.V.Denot)). job.inbox)) c.in_ok-jobs.ensures.items,
+      (let k = ap length e in let w = c.args.inboxes.ok in let n = c.len.ensures in let z = c.in_ok-jobs.ensures.len in let m = c.in_ok-jobs.ensures.capacity in omega arith),
     )
 
 pub split-requires-clause-parts : goal.split-requires-clause-parts
@@ -50,13 +51,13 @@ loop-inbox-preserved g c =
     let split = c.in_ok-seats.ensures in
     let same : (whole - length yielded) - 1 ≡ whole - length (yielded ++ one ∷ []) =
     omega (arith, length-append yielded (one ∷ [])) in
-    let push = c.in_ok-push.ensures.items in
+    let push = c.push_reserved.ensures.items in
     let NumberOf : Job (Seated g.row.R.Denot g.row.V.Denot) → ℕ = λ job. job.number in
     let InboxOf = λ (job : Job (Seated g.row.R.Denot g.row.V.Denot)). job.inbox in (
       subst (λ (n : ℕ). HasSeats venue n c.split.new.seats) same
           (subst (HasSeats venue ((whole - length yielded) - 1)) (sym split.old) (left_seats venue (whole - length yielded) old inv.0)),
-      (let more = length_push c.loop-inbox.jobs.items c.push.new.self.items _ push in omega (arith, more, inv.1, length-append yielded (one ∷ []))),
-      All-same IsIt c.push.new.self.items _ push
+      (let more = length_push c.loop-inbox.jobs.items c.push_reserved.new.self.items _ push in omega (arith, more, inv.1, length-append yielded (one ∷ []))),
+      All-same IsIt c.push_reserved.new.self.items _ push
           (All-push IsIt c.loop-inbox.jobs.items _ inv.2
           (refl, subst (HasSeats venue 1) (sym split.new) (new_seats venue old inv.0.are))),
       inv.3 ∙ ap (λ (l : List _). yielded ++ l) e ∙ sym (append_assoc yielded (one ∷ []) next),
@@ -66,6 +67,7 @@ loop-inbox-preserved g c =
           (let w = c.loop-inbox.jobs.ok in let e = c.len-number.ensures in let i = inv.1 in omega arith)
           ∙ ap (range_with_len 0) (sym (length-append yielded (one ∷ []))),
       ap (map InboxOf) push ∙ map-append InboxOf c.loop-inbox.jobs.items _ ∙ ap (λ (l : List _). l ++ one ∷ []) inv.6,
+      (let h = ap length e in let n = c.push_reserved.ensures.len in let m = c.push_reserved.ensures.capacity in let w = inv.7 in omega arith),
     )
 
 pub returns : goal.returns

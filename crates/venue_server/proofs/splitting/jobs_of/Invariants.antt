@@ -1,5 +1,6 @@
 -- So many floors were made, for the first inboxes.
-use Rattle.std.proofs.Common.{◌≡◌, ◌-◌, ◌++◌, length, map}
+use Rattle.std.proofs.Common.{◌≡◌, ◌+◌, ◌-◌, ◌≤◌, ◌++◌, length, map, vec_len}
+use Rattle.std.specs.Prelude.{vec_capacity}
 use Rattle.std.specs.List.{All, range_with_len}
 use Rattle.turn_gate.specs.Rule.{whole}
 use Rattle.venue_server.specs.Seating.{HasSeats}
@@ -14,3 +15,4 @@ invariant-loop-inbox g l =
     × (length l.inbox-iterator.rest.items ≡ l.inbox-iterator.rest.len)
     × (map (λ job. job.number) l.jobs.items ≡ range_with_len 0 (length l.yielded))
     × (map (λ job. job.inbox) l.jobs.items ≡ l.yielded)
+    × (vec_len l.jobs + length l.inbox-iterator.rest.items ≤ vec_capacity l.jobs)
