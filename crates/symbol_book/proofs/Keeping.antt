@@ -72,11 +72,12 @@ pub kept_next : (tick limit : ℕ) (markets : List Best) (buys sells : List Pric
     → best' ≡ best_of markets'
     → latest' ≤ event.number
     → All IsSmall orders'
+    → ids'.placed ≡ []
     → event.number ≡ length journal + 1
     → length journal < limit
     → IsKept tick limit markets' buys' sells' best' latest' orders' entered' ids' log' (journal ++ event ∷ [])
 unfolding step
-kept_next tick limit markets buys sells best latest orders entered ids log journal event markets' buys' sells' best' latest' orders' entered' ids' log' place kept count worked quote past small number below =
+kept_next tick limit markets buys sells best latest orders entered ids log journal event markets' buys' sells' best' latest' orders' entered' ids' log' place kept count worked quote past small settled number below =
     let grown : length (journal ++ event ∷ []) ≡ length journal + 1 = length-append journal (event ∷ []) in
     let s : State = state_of markets buys sells orders (used_of ids.entries) in
     let named = named_next ids.entries tick event.number event.command s refl kept.named in
@@ -93,6 +94,7 @@ kept_next tick limit markets buys sells best latest orders entered ids log journ
       rows = rw (count, next_entries (length markets) tick journal event, kept.state, ← kept.rows) worked.rows;
       small = small;
       named = subst (λ (es : List UsedId). NameOrders es orders') (sym worked.ids) by_orders;
+      settled = settled;
     }
 
 -- ---- a book without events
@@ -117,10 +119,10 @@ none_yet : {X : Type 0} (P : X → Type 0) → All P []
 none_yet P = grind arith
 
 pub kept_first : (tick limit markets : ℕ) (best : Best) (latest : ℕ) (ids : IdList) (log : Log) → IsTick tick → limit ≤ MAX_EVENTS
-    → best ≡ NO_QUOTE → latest ≡ 0 → ids.entries ≡ [] → log.list ≡ []
+    → best ≡ NO_QUOTE → latest ≡ 0 → ids.entries ≡ [] → ids.placed ≡ [] → log.list ≡ []
     → IsKept tick limit (replicate markets NO_QUOTE) [] [] best latest [] [] ids log []
 unfolding runs
-kept_first tick limit markets best latest ids log ticks limits quote first empty told =
+kept_first tick limit markets best latest ids log ticks limits quote first empty settled told =
     record {
       ticks = ticks;
       limits = limits;
@@ -133,6 +135,7 @@ kept_first tick limit markets best latest ids log ticks limits quote first empty
       rows = refl;
       small = none_yet _;
       named = record { each = λ k order e. cc };
+      settled = settled;
     }
 
 -- ---- what a book keeps beside its state

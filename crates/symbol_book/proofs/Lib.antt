@@ -6,6 +6,7 @@ pub mod Keeping
 pub mod LiveRows
 pub mod Naming
 pub mod Numbers
+pub mod Placing
 pub mod Reporting
 pub mod Requests
 pub mod RestingOrders

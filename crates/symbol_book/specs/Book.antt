@@ -1,5 +1,5 @@
 -- What a book keeps.
-use Rattle.std.specs.Prelude.{◌≡◌, ℕ, ◌≤◌, List, All, length, Option}
+use Rattle.std.specs.Prelude.{◌≡◌, ℕ, ◌≤◌, List, [], All, length, Option}
 use Rattle.venue_words.specs.declared.command.Event.{Event}
 use Rattle.venue_words.specs.declared.price.Best.{Best}
 use Rattle.venue_words.specs.declared.report.Report.{Report}
@@ -52,3 +52,4 @@ pub record IsKept (tick limit : ℕ)
   pub rows : entered ≡ entry_rows (length markets) tick journal
   pub small : All IsSmall orders
   pub named : NameOrders ids.entries orders
+  pub settled : ids.placed ≡ []

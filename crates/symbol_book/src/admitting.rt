@@ -1,17 +1,17 @@
 //! New orders.
-ghost use Rattle.std.specs.Prelude.{◌≡◌, ◌+◌, ◌*◌, ◌<◌, ◌≤◌, ◌++◌, ◌∷◌, [], Some, None, All, false, length};
+ghost use Rattle.std.specs.Prelude.{◌≡◌, ℕ, ◌+◌, ◌*◌, ◌<◌, ◌≤◌, List, ◌++◌, ◌∷◌, [], Some, None, All, false, length};
 ghost use Rattle.venue_words.specs.Conditions.{IsTick};
 ghost use Rattle.venue_words.specs.declared.command.Command.TheVariants.{New};
 ghost use Rattle.venue_words.specs.declared.report.Kind.TheVariants.{Rejected};
 ghost use Rattle.eager_meaning.specs.Entering.{accepted_order, arrival_of_new, enter};
-ghost use Rattle.eager_meaning.specs.Orders.{is_used, known_of};
+ghost use Rattle.eager_meaning.specs.Orders.{known_of};
 ghost use Rattle.eager_meaning.specs.Terms.{is_immediate, key_of, quantity_of, row_of};
 ghost use Rattle.eager_meaning.specs.Verdict.{verdict};
 ghost use Rattle.eager_meaning.specs.Work.{examined, examined_by_arrival};
 ghost use Rattle.market_laws.specs.Standing.{if_it_rests};
 ghost use Rattle.symbol_book.specs.Changes.{with_id};
 ghost use Rattle.symbol_book.specs.Fitting.{CanWork, NewFits};
-ghost use Rattle.symbol_book.specs.Ids.{used_of};
+ghost use Rattle.symbol_book.specs.Ids.{IsPlaced};
 ghost use Rattle.symbol_book.specs.Log.{Reports};
 ghost use Rattle.symbol_book.specs.Orders.{IsSmall};
 ghost use Rattle.symbol_book.specs.Parts.{Agree, AreWorked, HasRoom, resting_in, state_in};
@@ -19,10 +19,9 @@ ghost use Rattle.symbol_book.specs.Room.{CopiesOwn};
 
 use crate::entered_row::EnteredRow;
 use crate::entering::{enter, entering_row, price_now};
-use crate::ids::{ClOrdId, UsedIds};
 use crate::log::ReportLog;
 use crate::parts::Parts;
-use crate::room::Copies;
+use crate::room::{CommandIds, Copies};
 use crate::showing::view_at;
 use eager_meaning::{
     Known, Order, is_immediate, is_pegged, limit_of, quantity_of, side_of, verdict,
@@ -74,44 +73,45 @@ fn accept<E: Engine + Drop, L: Ledger>(
     steps: &mut Steps<L>,
 ) -> u32
     requires tick { IsTick tick }
-    requires copies { CopiesOwn room.own.member room.own.id room }
-    requires ready { E.ready parts.old.engine (Some (key_of tick terms.now)) }
-    requires later { E.latest parts.old.engine < event.now.number }
-    requires unbroken { (0 < quantity_of terms.now)
-        × (is_used room.own.member room.own.id (used_of parts.old.ids.entries) ≡ false) }
-    requires fits { (length room.own.id ≤ parts.old.orders.longest)
-        × NewFits tick event.now.number room.own.member room.own.id terms.now (E.best parts.old.engine)
+    requires copies { room.shown ≡ room.order }
+    requires placed { IsPlaced room.member room.order (length parts.old.orders.items) parts.old.ids.placed }
+    requires engine { E.ready parts.old.engine (Some (key_of tick terms.now))
+        × (E.latest parts.old.engine < event.now.number) }
+    requires shares { 0 < quantity_of terms.now }
+    requires fits { (length room.order ≤ parts.old.orders.longest)
+        × NewFits tick event.now.number room.member room.order terms.now (E.best parts.old.engine)
         (E.buys parts.old.engine) (E.sells parts.old.engine) parts.old.orders.items }
     requires agree { Agree E.buys E.sells E.best parts.old }
     requires places { HasRoom (resting_in E.buys E.sells parts.old) parts.old }
-    ensures state { (enter (arrival_of_new tick event.now.number room.own.member room.own.id terms.now
+    ensures state { (enter (arrival_of_new tick event.now.number room.member room.order terms.now
         (state_in E.buys E.sells parts.old))).state ≡ state_in E.buys E.sells parts.new }
-    ensures reports { Reports event.now parts.old.log.list 1 (enter (arrival_of_new tick event.now.number room.own.member
-        room.own.id terms.now (state_in E.buys E.sells parts.old))).notices parts.new.log.list result }
+    ensures reports { Reports event.now parts.old.log.list 1 (enter (arrival_of_new tick event.now.number room.member
+        room.order terms.now (state_in E.buys E.sells parts.old))).notices parts.new.log.list result }
     ensures entered { parts.new.entered.items ≡ parts.old.entered.items ++ if_it_rests (is_immediate terms.now)
-        (row_of tick event.now.number (length parts.old.orders.items) room.own.member 0 terms.now) ∷ [] }
+        (row_of tick event.now.number (length parts.old.orders.items) room.member 0 terms.now) ∷ [] }
     ensures ids { parts.new.ids.entries
-        ≡ with_id room.own.member room.own.id (length parts.old.orders.items) parts.old.ids.entries }
+        ≡ with_id room.member room.order (length parts.old.orders.items) parts.old.ids.entries }
+    ensures settled { parts.new.ids.placed ≡ [] }
     ensures markets { parts.new.markets ≡ parts.old.markets }
     ensures small { All IsSmall parts.new.orders.items }
     ensures most { steps.new ≤ steps.old + 2048 * (E.width parts.old.engine + 1) * (examined_by_arrival
-        (arrival_of_new tick event.now.number room.own.member room.own.id terms.now
+        (arrival_of_new tick event.now.number room.member room.order terms.now
         (state_in E.buys E.sells parts.old)) + 1) }
     ensures best { E.best parts.new.engine ≡ E.best parts.old.engine }
     ensures latest { E.latest parts.new.engine ≡ event.now.number }
 {
     let Copies {
-        own,
+        member,
         order: copy,
         shown,
         orig: _,
     } = room;
     let number = parts.orders.as_slice().len() as u32;
-    let row = entering_row(tick, event.number, number, own.member, 0, terms);
-    let order = accepted_order(tick, event.number, own.member, copy, terms);
+    let row = entering_row(tick, event.number, number, member, 0, terms);
+    let order = accepted_order(tick, event.number, member, copy, terms);
     let price = price_now(&parts.engine, &row);
     let view = view_at(&order, shown, price, row.entry);
-    parts.ids.push(own, number);
+    parts.ids.keep();
     parts.orders.push_reserved(order);
     parts
         .entered
@@ -127,24 +127,18 @@ fn accept<E: Engine + Drop, L: Ledger>(
     )
 }
 
-/// The first rule that a New breaks, or none.
+/// The first rule that a New breaks whose id is used up or not, or none.
 #[tactic(auto, unfolding(eager_meaning::specs::Orders::known_of), using(crate::proofs::Accepting::unbroken))]
-fn rule_of_new(
-    tick: u32,
-    ids: &UsedIds,
-    own: &ClOrdId,
-    event: &Event,
-    terms: &Terms,
-) -> Option<Rule>
-    requires tick { IsTick tick }
-    requires command { event.now.command ≡ New own.now.member own.now.id terms.now }
-    ensures rule { result ≡ verdict (New own.now.member own.now.id terms.now) (known_of tick
-        (is_used own.now.member own.now.id (used_of ids.now.entries)) None) }
-    ensures fresh { result ≡ None → is_used own.now.member own.now.id (used_of ids.now.entries) ≡ false }
-    ensures shares { result ≡ None → 0 < quantity_of terms.now }
+fn rule_of_new(tick: u32, used: bool, event: &Event, terms: &Terms) -> Option<Rule>
+    requires { IsTick tick }
+    ensures rule { result ≡ verdict event.now.command (known_of tick used None) }
+    ensures fresh { (member : ℕ) (id : List ℕ) → event.now.command ≡ New member id terms.now → result ≡ None
+        → used ≡ false }
+    ensures shares { (member : ℕ) (id : List ℕ) → event.now.command ≡ New member id terms.now → result ≡ None
+        → 0 < quantity_of terms.now }
 {
     let known = Known {
-        used: ids.contains(own),
+        used,
         live: false,
         side: Side::Buy,
         cum: 0,
@@ -177,19 +171,21 @@ pub fn on_new<E: Engine + Drop, L: Ledger>(
     parts: &mut Parts<E>,
     event: &Event,
     terms: &Terms,
-    room: Copies,
+    room: CommandIds,
     steps: &mut Steps<L>,
 ) -> u32
     requires tick { IsTick tick }
     requires command { event.now.command ≡ New room.own.member room.own.id terms.now }
     requires copies { CopiesOwn room.own.member room.own.id room }
-    requires ready { E.ready parts.old.engine (Some (key_of tick terms.now)) }
-    requires later { E.latest parts.old.engine < event.now.number }
+    requires settled { parts.old.ids.placed ≡ [] }
+    requires engine { E.ready parts.old.engine (Some (key_of tick terms.now))
+        × (E.latest parts.old.engine < event.now.number) }
     requires fits { (length room.own.id ≤ parts.old.orders.longest)
         × CanWork tick event.now.number event.now.command (state_in E.buys E.sells parts.old) }
     requires agree { Agree E.buys E.sells E.best parts.old }
     requires places { HasRoom (resting_in E.buys E.sells parts.old) parts.old }
     ensures worked { AreWorked E.buys E.sells tick event.now parts.old parts.new result }
+    ensures settled { parts.new.ids.placed ≡ [] }
     ensures markets { parts.new.markets ≡ parts.old.markets }
     ensures small { All IsSmall parts.new.orders.items }
     ensures most { steps.new ≤ steps.old + 2048 * (E.width parts.old.engine + 1)
@@ -197,11 +193,15 @@ pub fn on_new<E: Engine + Drop, L: Ledger>(
     ensures best { E.best parts.new.engine ≡ E.best parts.old.engine }
     ensures latest { E.latest parts.new.engine ≤ event.now.number }
 {
-    match rule_of_new(tick, &parts.ids, &room.own, event, terms) {
+    let CommandIds { own, copies } = room;
+    let number = parts.orders.as_slice().len() as u32;
+    let used = parts.ids.place(own, number);
+    match rule_of_new(tick, used, event, terms) {
         Some(rule) => {
-            let member = room.own.member;
-            reject(&mut parts.log, event, member, room.shown, terms, rule)
+            parts.ids.take_back();
+            let member = copies.member;
+            reject(&mut parts.log, event, member, copies.shown, terms, rule)
         }
-        None => accept(tick, parts, event, terms, room, steps),
+        None => accept(tick, parts, event, terms, copies, steps),
     }
 }

@@ -1,22 +1,21 @@
 //! Cancels.
-ghost use Rattle.std.specs.Prelude.{◌≡◌, ◌+◌, ◌<◌, ◌≤◌, None, false, length, slice_set};
+ghost use Rattle.std.specs.Prelude.{◌≡◌, ◌+◌, ◌<◌, ◌≤◌, [], None, length, slice_set};
 ghost use Rattle.venue_words.specs.Conditions.{IsTick};
 ghost use Rattle.venue_words.specs.declared.command.Command.TheVariants.{Cancel};
 ghost use Rattle.eager_meaning.specs.declared.order.Live.{Live};
 ghost use Rattle.eager_meaning.specs.Changing.{cancel};
-ghost use Rattle.eager_meaning.specs.Orders.{is_used};
 ghost use Rattle.symbol_book.specs.Changes.{with_id};
 ghost use Rattle.symbol_book.specs.Finding.{IsFoundAs};
-ghost use Rattle.symbol_book.specs.Ids.{used_of};
+ghost use Rattle.symbol_book.specs.Ids.{IsPlaced};
 ghost use Rattle.symbol_book.specs.Log.{Reports};
 ghost use Rattle.symbol_book.specs.Parts.{Agree, AreWorked, HasRoom, resting_in, rows_in, state_in};
 ghost use Rattle.symbol_book.specs.Room.{CopiesOwn};
 
 use crate::entered_row::EnteredRow;
-use crate::finding::{Found, find_named};
+use crate::finding::{Found, find_named, number_or_zero};
 use crate::parts::Parts;
 use crate::refusing::{refuse, rule_of_request};
-use crate::room::Copies;
+use crate::room::{CommandIds, Copies};
 use crate::showing::view_closed;
 use match_core::Engine;
 use std::sync::ledger::Ledger;
@@ -34,35 +33,34 @@ fn cancel<E: Engine + Drop, L: Ledger>(
     requires found { (live : Live)
         × IsFoundAs parts.old.orders.items (rows_in E.buys E.sells parts.old) live found }
     requires here { found.number < length parts.old.orders.items }
-    requires copies { CopiesOwn room.own.member room.own.id room }
-    requires fresh { is_used room.own.member room.own.id (used_of parts.old.ids.entries) ≡ false }
+    requires placed { IsPlaced room.member room.shown found.number parts.old.ids.placed }
     requires agree { Agree E.buys E.sells E.best parts.old }
     requires places { HasRoom (resting_in E.buys E.sells parts.old) parts.old }
     ensures state { (live : Live) → IsFoundAs parts.old.orders.items (rows_in E.buys E.sells parts.old) live found
-        → (cancel room.own.member room.shown room.orig.id live (state_in E.buys E.sells parts.old)).state
+        → (cancel room.member room.shown room.orig.id live (state_in E.buys E.sells parts.old)).state
         ≡ state_in E.buys E.sells parts.new }
     ensures reports { (live : Live) → IsFoundAs parts.old.orders.items (rows_in E.buys E.sells parts.old) live found
-        → Reports event.now parts.old.log.list 1 (cancel room.own.member room.shown room.orig.id live
+        → Reports event.now parts.old.log.list 1 (cancel room.member room.shown room.orig.id live
         (state_in E.buys E.sells parts.old)).notices parts.new.log.list result }
     ensures entered { parts.new.entered.items ≡ slice_set parts.old.entered.items found.number None }
-    ensures ids { parts.new.ids.entries ≡ with_id room.own.member room.shown found.number parts.old.ids.entries }
+    ensures ids { parts.new.ids.entries ≡ with_id room.member room.shown found.number parts.old.ids.entries }
+    ensures settled { parts.new.ids.placed ≡ [] }
     ensures rest { (parts.new.markets ≡ parts.old.markets) × (parts.new.orders ≡ parts.old.orders) }
     ensures most { steps.new ≤ steps.old + 512 }
     ensures best { E.best parts.new.engine ≡ E.best parts.old.engine }
     ensures latest { E.latest parts.new.engine ≡ E.latest parts.old.engine }
 {
     let Copies {
-        own,
+        member,
         order: _,
         shown,
         orig,
     } = room;
-    let member = own.member;
     let order = &parts.orders[found.number as usize];
     let view = view_closed(order, shown);
     parts.engine.cut(&found.row, steps);
     parts.entered[found.number as usize] = EnteredRow::none();
-    parts.ids.push(own, found.number);
+    parts.ids.keep();
     let execution = Execution::Canceled {
         orig: Some(orig.id),
     };
@@ -77,27 +75,37 @@ pub fn on_cancel<E: Engine + Drop, L: Ledger>(
     tick: u32,
     parts: &mut Parts<E>,
     event: &Event,
-    room: Copies,
+    room: CommandIds,
     steps: &mut Steps<L>,
 ) -> u32
     requires tick { IsTick tick }
-    requires command { event.now.command ≡ Cancel room.own.member room.own.id room.orig.id }
+    requires command { event.now.command ≡ Cancel room.own.member room.own.id room.copies.orig.id }
     requires own { CopiesOwn room.own.member room.own.id room }
-    requires orig { room.orig.member ≡ room.own.member }
+    requires orig { room.copies.orig.member ≡ room.own.member }
+    requires settled { parts.old.ids.placed ≡ [] }
     requires agree { Agree E.buys E.sells E.best parts.old }
     requires places { HasRoom (resting_in E.buys E.sells parts.old) parts.old }
     ensures worked { AreWorked E.buys E.sells tick event.now parts.old parts.new result }
+    ensures settled { parts.new.ids.placed ≡ [] }
     ensures rest { (parts.new.markets ≡ parts.old.markets) × (parts.new.orders ≡ parts.old.orders) }
     ensures most { steps.new ≤ steps.old + 512 }
     ensures best { E.best parts.new.engine ≡ E.best parts.old.engine }
     ensures latest { E.latest parts.new.engine ≡ E.latest parts.old.engine }
 {
-    let live = find_named(parts, &room);
-    match rule_of_request(tick, parts, &room, live, event) {
-        Some(rule) => refuse(parts, event, RefusedRequest::Cancel, room, live, rule),
+    let CommandIds { own, copies } = room;
+    let live = find_named(parts, &copies);
+    let used = parts.ids.place(own, number_or_zero(live));
+    match rule_of_request(tick, parts, used, live, event) {
+        Some(rule) => {
+            parts.ids.take_back();
+            refuse(parts, event, RefusedRequest::Cancel, copies, live, rule)
+        }
         None => match live {
-            Some(found) => cancel(parts, event, room, found, steps),
-            None => 1,
+            Some(found) => cancel(parts, event, copies, found, steps),
+            None => {
+                parts.ids.take_back();
+                1
+            }
         },
     }
 }

@@ -1,5 +1,6 @@
 //! The order that a request names.
-ghost use Rattle.std.specs.Prelude.{◌≡◌, ◌<◌, IfSome, List, length, option_map, Some};
+ghost use Rattle.std.specs.Prelude.{◌≡◌, ◌<◌, IfSome, List, [], length, option_map, Some};
+ghost use Rattle.std.specs.Option.{option_map_or};
 ghost use Rattle.venue_words.specs.declared.row.Priced.{Priced};
 ghost use Rattle.eager_meaning.specs.Orders.{is_named, order_named, live_named};
 ghost use Rattle.symbol_book.specs.Finding.{IsNumber, IsRowIfLive, IsFound};
@@ -48,7 +49,8 @@ fn number_here(orders: &[Order], id: &ClOrdId, number: u32) -> Option<u32>
 
 /// The number of the member's order that has this id at present, live or not.
 pub fn number_of(ids: &UsedIds, orders: &[Order], id: &ClOrdId) -> Option<u32>
-    requires { NameOrders ids.now.entries orders.now }
+    requires named { NameOrders ids.now.entries orders.now }
+    requires settled { ids.now.placed ≡ [] }
     ensures number { IsNumber id.now.member id.now.id orders.now
         (order_named id.now.member id.now.id orders.now) result }
     ensures here { IfSome result (λ number. number < length orders.now) }
@@ -76,6 +78,7 @@ pub fn live_row(orders: &[Order], entered: &[EnteredRow], number: u32) -> Option
 /// The member's live order that has this id at present.
 fn find_live(ids: &UsedIds, orders: &[Order], entered: &[EnteredRow], id: &ClOrdId) -> Option<Found>
     requires named { NameOrders ids.now.entries orders.now }
+    requires settled { ids.now.placed ≡ [] }
     requires count { length entered.now ≡ length orders.now }
     ensures here { IfSome result (λ found. found.number < length orders.now) }
     ensures live { (rows : List Priced) → AreEntered entered.now orders.now rows
@@ -90,9 +93,20 @@ fn find_live(ids: &UsedIds, orders: &[Order], entered: &[EnteredRow], id: &ClOrd
     }
 }
 
+/// The number of a live order that was found, or 0.
+pub fn number_or_zero(live: Option<Found>) -> u32
+    ensures { result ≡ option_map_or (λ found. found.number) live 0 }
+{
+    match live {
+        Some(found) => found.number,
+        None => 0,
+    }
+}
+
 /// The live order that a Cancel or a Replace names, by the copy of its id.
 pub fn find_named<E: Engine + Drop>(parts: &Parts<E>, room: &Copies) -> Option<Found>
-    requires { Agree E.buys E.sells E.best parts.now }
+    requires agree { Agree E.buys E.sells E.best parts.now }
+    requires settled { parts.now.ids.placed ≡ [] }
     ensures here { IfSome result (λ found. found.number < length parts.now.orders.items) }
     ensures live { IsFound parts.now.orders.items (rows_in E.buys E.sells parts.now) (live_named room.now.orig.member
         room.now.orig.id parts.now.orders.items (rows_in E.buys E.sells parts.now)) result }

@@ -11,7 +11,7 @@ ghost use Rattle.symbol_book.specs.Room.{CopiesOwn, CopiesOrig, IsRoomFor};
 
 use crate::ids::ClOrdId;
 use crate::parts::Parts;
-use crate::room::{Copies, Room};
+use crate::room::{CommandIds, Copies, Room};
 use eager_meaning::key_of;
 use match_core::Engine;
 use std::alloc::{AllocError, Global};
@@ -27,12 +27,13 @@ fn copies(alloc: Global, member: u32, id: &Id, orig: &Id) -> Result<Room, AllocE
     let shown = id.copy(alloc)?;
     let named = orig.copy(alloc)?;
     let copies = Copies {
-        own: ClOrdId { member, id: own },
+        member,
         order,
         shown,
         orig: ClOrdId { member, id: named },
     };
-    Room::of(alloc, copies)
+    let own = ClOrdId { member, id: own };
+    Room::of(alloc, CommandIds { own, copies })
 }
 
 /// The copies that a command wants.
@@ -91,7 +92,7 @@ pub fn make_room<E: Engine + Drop>(
     requires bytes { bytes ≤ MAX_ID_BYTES }
     ensures orders { parts.new.orders.items ≡ parts.old.orders.items }
     ensures entered { parts.new.entered.items ≡ parts.old.entered.items }
-    ensures ids { parts.new.ids.entries ≡ parts.old.ids.entries }
+    ensures ids { (parts.new.ids.entries ≡ parts.old.ids.entries) × (parts.new.ids.placed ≡ parts.old.ids.placed) }
     ensures reports { parts.new.log.list ≡ parts.old.log.list }
     ensures journal { journal.new.items ≡ journal.old.items }
     ensures markets { parts.new.markets ≡ parts.old.markets }

@@ -4,10 +4,9 @@ ghost use Rattle.venue_words.specs.Conditions.{IsTick};
 ghost use Rattle.venue_words.specs.declared.row.Priced.{Priced};
 ghost use Rattle.eager_meaning.specs.declared.order.Live.{Live};
 ghost use Rattle.eager_meaning.specs.Changing.{named_order, refusal};
-ghost use Rattle.eager_meaning.specs.Orders.{is_used, known_of};
+ghost use Rattle.eager_meaning.specs.Orders.{known_of};
 ghost use Rattle.eager_meaning.specs.Verdict.{verdict};
 ghost use Rattle.symbol_book.specs.Finding.{IsFound};
-ghost use Rattle.symbol_book.specs.Ids.{used_of};
 ghost use Rattle.symbol_book.specs.Log.{Reports};
 
 use crate::finding::Found;
@@ -46,21 +45,19 @@ fn known_of(tick: u32, used: bool, live: Option<Found>, orders: &[Order]) -> Kno
     }
 }
 
-/// The first rule that a Cancel or a Replace breaks, or none.
+/// The first rule that a Cancel or a Replace breaks whose id is used up or not, or none.
 pub fn rule_of_request<E: Engine + Drop>(
     tick: u32,
     parts: &Parts<E>,
-    room: &Copies,
+    used: bool,
     live: Option<Found>,
     event: &Event,
 ) -> Option<Rule>
     requires tick { IsTick tick }
     requires here { IfSome live (λ found. found.number < length parts.now.orders.items) }
     ensures { (rows : List Priced) (is : Option Live) → IsFound parts.now.orders.items rows is live
-        → result ≡ verdict event.now.command (known_of tick (is_used room.now.own.member room.now.own.id
-        (used_of parts.now.ids.entries)) is) }
+        → result ≡ verdict event.now.command (known_of tick used is) }
 {
-    let used = parts.ids.contains(&room.own);
     let known = known_of(tick, used, live, &parts.orders);
     verdict(&event.command, &known)
 }
@@ -78,7 +75,7 @@ pub fn refuse<E: Engine + Drop>(
     requires places { 0 < parts.old.log.places }
     ensures reports { (rows : List Priced) (is : Option Live) → IsFound parts.old.orders.items rows is live
         → Reports event.now parts.old.log.list 1
-        (record { member = room.own.member; kind = refusal request room.shown room.orig.id is rule } ∷ [])
+        (record { member = room.member; kind = refusal request room.shown room.orig.id is rule } ∷ [])
         parts.new.log.list result }
     ensures rest { parts.new ≡ record parts.old { log = parts.new.log } }
 {
@@ -90,7 +87,7 @@ pub fn refuse<E: Engine + Drop>(
         request,
         rule,
     };
-    parts.log.push(event, 1, room.own.member, kind)
+    parts.log.push(event, 1, room.member, kind)
 }
 
 /// How a refusal names a live order, where there is one.

@@ -1,5 +1,5 @@
 //! Replaces.
-ghost use Rattle.std.specs.Prelude.{◌≡◌, ◌⊎◌, ◌+◌, ◌*◌, ◌<◌, ◌≤◌, List, Some, All, false};
+ghost use Rattle.std.specs.Prelude.{◌≡◌, ◌⊎◌, ◌+◌, ◌*◌, ◌<◌, ◌≤◌, List, [], Some, All};
 ghost use Rattle.std.specs.Prelude.{length, slice_set};
 ghost use Rattle.venue_words.specs.Conditions.{IsTick};
 ghost use Rattle.venue_words.specs.declared.command.Command.TheVariants.{Replace};
@@ -8,14 +8,13 @@ ghost use Rattle.eager_meaning.specs.declared.order.Live.{Live};
 ghost use Rattle.eager_meaning.specs.Changing.{arrival_of_replace, only_lowers, replace, resize};
 ghost use Rattle.eager_meaning.specs.Entering.{enter};
 ghost use Rattle.eager_meaning.specs.Floor.{same_method};
-ghost use Rattle.eager_meaning.specs.Orders.{is_used};
 ghost use Rattle.eager_meaning.specs.Terms.{is_immediate, key_of, quantity_of, row_of};
 ghost use Rattle.eager_meaning.specs.Work.{examined, examined_by_arrival};
 ghost use Rattle.market_laws.specs.Standing.{if_it_rests};
 ghost use Rattle.symbol_book.specs.Changes.{entered_by_replace, examined_by_replace, with_id};
 ghost use Rattle.symbol_book.specs.Finding.{IsFoundAs};
 ghost use Rattle.symbol_book.specs.Fitting.{CanWork, ReplaceFits};
-ghost use Rattle.symbol_book.specs.Ids.{used_of};
+ghost use Rattle.symbol_book.specs.Ids.{IsPlaced};
 ghost use Rattle.symbol_book.specs.Log.{Reports};
 ghost use Rattle.symbol_book.specs.Orders.{IsSmall};
 ghost use Rattle.symbol_book.specs.Parts.{Agree, AreWorked, HasRoom, resting_in, rows_in, state_in};
@@ -23,10 +22,10 @@ ghost use Rattle.symbol_book.specs.Room.{CopiesOwn};
 
 use crate::admitting::kept_row;
 use crate::entering::{enter, entering_row, price_now};
-use crate::finding::{Found, find_named};
+use crate::finding::{Found, find_named, number_or_zero};
 use crate::parts::Parts;
 use crate::refusing::{refuse, rule_of_request};
-use crate::room::Copies;
+use crate::room::{CommandIds, Copies};
 use crate::showing::view_at;
 use eager_meaning::{Order, is_immediate, quantity_of, row_of};
 use match_core::Engine;
@@ -94,21 +93,22 @@ fn resize<E: Engine + Drop, L: Ledger>(
         × IsFoundAs parts.old.orders.items (rows_in E.buys E.sells parts.old) live named.found
         × (live.order.cum < quantity_of terms.now) }
     requires here { named.found.number < length parts.old.orders.items }
-    requires copies { CopiesOwn named.room.own.member named.room.own.id named.room }
-    requires fresh { is_used named.room.own.member named.room.own.id (used_of parts.old.ids.entries) ≡ false }
-    requires short { length named.room.own.id ≤ parts.old.orders.longest }
+    requires copies { named.room.shown ≡ named.room.order }
+    requires placed { IsPlaced named.room.member named.room.order named.found.number parts.old.ids.placed }
+    requires short { length named.room.order ≤ parts.old.orders.longest }
     requires agree { Agree E.buys E.sells E.best parts.old }
     requires places { HasRoom (resting_in E.buys E.sells parts.old) parts.old }
     ensures state { (live : Live)
         → IsFoundAs parts.old.orders.items (rows_in E.buys E.sells parts.old) live named.found
-        → (resize tick named.room.own.member named.room.own.id named.room.orig.id terms.now live
+        → (resize tick named.room.member named.room.order named.room.orig.id terms.now live
         (state_in E.buys E.sells parts.old)).state ≡ state_in E.buys E.sells parts.new }
     ensures reports { (live : Live)
         → IsFoundAs parts.old.orders.items (rows_in E.buys E.sells parts.old) live named.found
-        → Reports event.now parts.old.log.list 1 (resize tick named.room.own.member named.room.own.id
+        → Reports event.now parts.old.log.list 1 (resize tick named.room.member named.room.order
         named.room.orig.id terms.now live (state_in E.buys E.sells parts.old)).notices parts.new.log.list result }
     ensures ids { parts.new.ids.entries
-        ≡ with_id named.room.own.member named.room.own.id named.found.number parts.old.ids.entries }
+        ≡ with_id named.room.member named.room.order named.found.number parts.old.ids.entries }
+    ensures settled { parts.new.ids.placed ≡ [] }
     ensures entered { parts.new.entered.items ≡ parts.old.entered.items }
     ensures markets { parts.new.markets ≡ parts.old.markets }
     ensures small { All IsSmall parts.new.orders.items }
@@ -118,19 +118,18 @@ fn resize<E: Engine + Drop, L: Ledger>(
 {
     let Named { found, room } = named;
     let Copies {
-        own,
+        member,
         order: copy,
         shown,
         orig,
     } = room;
-    let member = own.member;
     let (price, time) = parts.engine.priced(&found.row, steps);
     parts.orders.set_terms(tick, found.number, copy, terms);
     let order = &parts.orders[found.number as usize];
     let leaves = order.quantity - order.cum;
     let view = view_at(order, shown, price, time);
     parts.engine.lower(&found.row, leaves, steps);
-    parts.ids.push(own, found.number);
+    parts.ids.keep();
     let execution = Execution::Replaced { orig: orig.id };
     parts
         .log
@@ -151,65 +150,59 @@ fn reenter<E: Engine + Drop, L: Ledger>(
     requires found { (live : Live)
         × IsFoundAs parts.old.orders.items (rows_in E.buys E.sells parts.old) live named.found
         × (live.order.cum < quantity_of terms.now)
-        × ReplaceFits tick event.now.number named.room.own.member named.room.own.id terms.now live
+        × ReplaceFits tick event.now.number named.room.member named.room.order terms.now live
         (E.best parts.old.engine) (E.buys parts.old.engine) (E.sells parts.old.engine) parts.old.orders.items }
     requires here { named.found.number < length parts.old.orders.items }
-    requires copies { CopiesOwn named.room.own.member named.room.own.id named.room }
-    requires id { (is_used named.room.own.member named.room.own.id (used_of parts.old.ids.entries) ≡ false)
-        × (length named.room.own.id ≤ parts.old.orders.longest) }
+    requires copies { named.room.shown ≡ named.room.order }
+    requires id { IsPlaced named.room.member named.room.order named.found.number parts.old.ids.placed
+        × (length named.room.order ≤ parts.old.orders.longest) }
     requires engine { E.ready parts.old.engine (Some (key_of tick terms.now))
         × (E.latest parts.old.engine < event.now.number) }
     requires agree { Agree E.buys E.sells E.best parts.old }
     requires places { HasRoom (resting_in E.buys E.sells parts.old) parts.old }
     ensures state { (live : Live)
         → IsFoundAs parts.old.orders.items (rows_in E.buys E.sells parts.old) live named.found
-        → (enter (arrival_of_replace tick event.now.number named.room.own.member named.room.own.id
+        → (enter (arrival_of_replace tick event.now.number named.room.member named.room.order
         named.room.orig.id terms.now live (state_in E.buys E.sells parts.old))).state
         ≡ state_in E.buys E.sells parts.new }
     ensures reports { (live : Live)
         → IsFoundAs parts.old.orders.items (rows_in E.buys E.sells parts.old) live named.found
-        → Reports event.now parts.old.log.list 1 (enter (arrival_of_replace tick event.now.number named.room.own.member
-        named.room.own.id named.room.orig.id terms.now live (state_in E.buys E.sells parts.old))).notices
+        → Reports event.now parts.old.log.list 1 (enter (arrival_of_replace tick event.now.number named.room.member
+        named.room.order named.room.orig.id terms.now live (state_in E.buys E.sells parts.old))).notices
         parts.new.log.list result }
     ensures entered { (live : Live)
         → IsFoundAs parts.old.orders.items (rows_in E.buys E.sells parts.old) live named.found
         → parts.new.entered.items ≡ slice_set parts.old.entered.items named.found.number (if_it_rests
         (is_immediate terms.now)
-        (row_of tick event.now.number named.found.number named.room.own.member live.order.cum terms.now)) }
+        (row_of tick event.now.number named.found.number named.room.member live.order.cum terms.now)) }
     ensures ids { parts.new.ids.entries
-        ≡ with_id named.room.own.member named.room.own.id named.found.number parts.old.ids.entries }
+        ≡ with_id named.room.member named.room.order named.found.number parts.old.ids.entries }
+    ensures settled { parts.new.ids.placed ≡ [] }
     ensures markets { parts.new.markets ≡ parts.old.markets }
     ensures small { All IsSmall parts.new.orders.items }
     ensures most { (live : Live)
         → IsFoundAs parts.old.orders.items (rows_in E.buys E.sells parts.old) live named.found → steps.new
         ≤ steps.old + 512 + 2048 * (E.width parts.old.engine + 1) * (examined_by_arrival
-        (arrival_of_replace tick event.now.number named.room.own.member named.room.own.id
+        (arrival_of_replace tick event.now.number named.room.member named.room.order
         named.room.orig.id terms.now live (state_in E.buys E.sells parts.old)) + 1) }
     ensures best { E.best parts.new.engine ≡ E.best parts.old.engine }
     ensures latest { E.latest parts.new.engine ≡ event.now.number }
 {
     let Named { found, room } = named;
     let Copies {
-        own,
+        member,
         order: copy,
         shown,
         orig,
     } = room;
     parts.orders.set_terms(tick, found.number, copy, terms);
     let order = &parts.orders[found.number as usize];
-    let row = entering_row(
-        tick,
-        event.number,
-        found.number,
-        own.member,
-        order.cum,
-        terms,
-    );
+    let row = entering_row(tick, event.number, found.number, member, order.cum, terms);
     let price = price_now(&parts.engine, &row);
     let view = view_at(order, shown, price, row.entry);
     parts.engine.cut(&found.row, steps);
     parts.entered[found.number as usize] = kept_row(is_immediate(terms), row);
-    parts.ids.push(own, found.number);
+    parts.ids.keep();
     let execution = Execution::Replaced { orig: orig.id };
     enter(
         parts,
@@ -234,37 +227,38 @@ fn replace<E: Engine + Drop, L: Ledger>(
     requires found { (live : Live)
         × IsFoundAs parts.old.orders.items (rows_in E.buys E.sells parts.old) live named.found
         × (live.order.cum < quantity_of terms.now)
-        × ReplaceFits tick event.now.number named.room.own.member named.room.own.id terms.now live
+        × ReplaceFits tick event.now.number named.room.member named.room.order terms.now live
         (E.best parts.old.engine) (E.buys parts.old.engine) (E.sells parts.old.engine) parts.old.orders.items }
     requires here { named.found.number < length parts.old.orders.items }
-    requires copies { CopiesOwn named.room.own.member named.room.own.id named.room }
-    requires id { (is_used named.room.own.member named.room.own.id (used_of parts.old.ids.entries) ≡ false)
-        × (length named.room.own.id ≤ parts.old.orders.longest) }
+    requires copies { named.room.shown ≡ named.room.order }
+    requires id { IsPlaced named.room.member named.room.order named.found.number parts.old.ids.placed
+        × (length named.room.order ≤ parts.old.orders.longest) }
     requires engine { E.ready parts.old.engine (Some (key_of tick terms.now))
         × (E.latest parts.old.engine < event.now.number) }
     requires agree { Agree E.buys E.sells E.best parts.old }
     requires places { HasRoom (resting_in E.buys E.sells parts.old) parts.old }
     ensures state { (live : Live)
         → IsFoundAs parts.old.orders.items (rows_in E.buys E.sells parts.old) live named.found
-        → (replace tick event.now.number named.room.own.member named.room.own.id named.room.orig.id
+        → (replace tick event.now.number named.room.member named.room.order named.room.orig.id
         terms.now live (state_in E.buys E.sells parts.old)).state ≡ state_in E.buys E.sells parts.new }
     ensures reports { (live : Live)
         → IsFoundAs parts.old.orders.items (rows_in E.buys E.sells parts.old) live named.found
-        → Reports event.now parts.old.log.list 1 (replace tick event.now.number named.room.own.member
-        named.room.own.id named.room.orig.id terms.now live (state_in E.buys E.sells parts.old)).notices
+        → Reports event.now parts.old.log.list 1 (replace tick event.now.number named.room.member
+        named.room.order named.room.orig.id terms.now live (state_in E.buys E.sells parts.old)).notices
         parts.new.log.list result }
     ensures entered { (live : Live)
         → IsFoundAs parts.old.orders.items (rows_in E.buys E.sells parts.old) live named.found
-        → parts.new.entered.items ≡ entered_by_replace tick event.now.number named.room.own.member terms.now live
+        → parts.new.entered.items ≡ entered_by_replace tick event.now.number named.room.member terms.now live
         parts.old.entered.items }
     ensures ids { parts.new.ids.entries
-        ≡ with_id named.room.own.member named.room.own.id named.found.number parts.old.ids.entries }
+        ≡ with_id named.room.member named.room.order named.found.number parts.old.ids.entries }
+    ensures settled { parts.new.ids.placed ≡ [] }
     ensures markets { parts.new.markets ≡ parts.old.markets }
     ensures small { All IsSmall parts.new.orders.items }
     ensures most { (live : Live)
         → IsFoundAs parts.old.orders.items (rows_in E.buys E.sells parts.old) live named.found → steps.new
         ≤ steps.old + 2048 + 2048 * (E.width parts.old.engine + 1) * (examined_by_replace tick event.now.number
-        named.room.own.member named.room.own.id named.room.orig.id terms.now live
+        named.room.member named.room.order named.room.orig.id terms.now live
         (state_in E.buys E.sells parts.old) + 1) }
     ensures best { E.best parts.new.engine ≡ E.best parts.old.engine }
     ensures latest { E.latest parts.new.engine ≤ event.now.number }
@@ -283,13 +277,13 @@ pub fn on_replace<E: Engine + Drop, L: Ledger>(
     parts: &mut Parts<E>,
     event: &Event,
     terms: &Terms,
-    room: Copies,
+    room: CommandIds,
     steps: &mut Steps<L>,
 ) -> u32
     requires tick { IsTick tick }
-    requires command { event.now.command ≡ Replace room.own.member room.own.id room.orig.id terms.now }
-    requires own { CopiesOwn room.own.member room.own.id room }
-    requires orig { room.orig.member ≡ room.own.member }
+    requires command { event.now.command ≡ Replace room.own.member room.own.id room.copies.orig.id terms.now }
+    requires copies { CopiesOwn room.own.member room.own.id room × (room.copies.orig.member ≡ room.own.member) }
+    requires settled { parts.old.ids.placed ≡ [] }
     requires fits { (length room.own.id ≤ parts.old.orders.longest)
         × CanWork tick event.now.number event.now.command (state_in E.buys E.sells parts.old) }
     requires engine { E.ready parts.old.engine (Some (key_of tick terms.now))
@@ -297,6 +291,7 @@ pub fn on_replace<E: Engine + Drop, L: Ledger>(
     requires agree { Agree E.buys E.sells E.best parts.old }
     requires places { HasRoom (resting_in E.buys E.sells parts.old) parts.old }
     ensures worked { AreWorked E.buys E.sells tick event.now parts.old parts.new result }
+    ensures settled { parts.new.ids.placed ≡ [] }
     ensures markets { parts.new.markets ≡ parts.old.markets }
     ensures small { All IsSmall parts.new.orders.items }
     ensures most { steps.new ≤ steps.old + 2048 + 2048 * (E.width parts.old.engine + 1)
@@ -305,12 +300,26 @@ pub fn on_replace<E: Engine + Drop, L: Ledger>(
     ensures best { E.best parts.new.engine ≡ E.best parts.old.engine }
     ensures latest { E.latest parts.new.engine ≤ event.now.number }
 {
-    let live = find_named(parts, &room);
-    match rule_of_request(tick, parts, &room, live, event) {
-        Some(rule) => refuse(parts, event, RefusedRequest::Replace, room, live, rule),
+    let CommandIds { own, copies } = room;
+    let live = find_named(parts, &copies);
+    let used = parts.ids.place(own, number_or_zero(live));
+    match rule_of_request(tick, parts, used, live, event) {
+        Some(rule) => {
+            parts.ids.take_back();
+            refuse(parts, event, RefusedRequest::Replace, copies, live, rule)
+        }
         None => match live {
-            Some(found) => replace(tick, parts, event, terms, Named { found, room }, steps),
-            None => 1,
+            Some(found) => {
+                let named = Named {
+                    found,
+                    room: copies,
+                };
+                replace(tick, parts, event, terms, named, steps)
+            }
+            None => {
+                parts.ids.take_back();
+                1
+            }
         },
     }
 }

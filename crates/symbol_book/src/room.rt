@@ -6,12 +6,11 @@ use std::alloc::{AllocError, Global};
 use std::marker::Model;
 use venue_words::Id;
 
-/// Copies of a command's ids.
+/// A command's member, and copies of its ids.
 #[derive(Drop)]
 pub struct Copies {
-    /// The command's own id, to be used up.
-    pub(crate) own: ClOrdId,
-    /// The same, for the order that it enters or changes.
+    pub(crate) member: u32,
+    /// The command's own id, for the order that it enters or changes.
     pub(crate) order: Id,
     /// The same, for its report.
     pub(crate) shown: Id,
@@ -19,18 +18,26 @@ pub struct Copies {
     pub(crate) orig: ClOrdId,
 }
 
-/// What one command takes with it: copies of its ids, made ahead, and nothing for a quote. It comes from `prepare` alone. Contracts
-/// see the copies.
+/// The ids that a command takes with it.
 #[derive(Drop)]
-pub struct Room(Option<Box<Copies>>);
+pub struct CommandIds {
+    /// The command's own id, to be used up.
+    pub(crate) own: ClOrdId,
+    pub(crate) copies: Copies,
+}
+
+/// What one command takes with it: copies of its ids, made ahead, and nothing for a quote. It comes from `prepare` alone. Contracts
+/// see the ids.
+#[derive(Drop)]
+pub struct Room(Option<Box<CommandIds>>);
 
 impl Model for Room {
-    ghost use Rattle.symbol_book.specs.declared.room.Copies.{Copies};
-    ghost use Rattle.symbol_book.specs.Copies.{copies_in};
+    ghost use Rattle.symbol_book.specs.declared.room.CommandIds.{CommandIds};
+    ghost use Rattle.symbol_book.specs.Copies.{ids_in};
 
-    ghost Value = { Copies };
+    ghost Value = { CommandIds };
 
-    ghost view = { λ r. copies_in r.0 };
+    ghost view = { λ r. ids_in r.0 };
 }
 
 impl Room {
@@ -39,29 +46,32 @@ impl Room {
         Room(None)
     }
 
-    /// With these copies.
-    pub(crate) fn of(alloc: Global, copies: Copies) -> Result<Room, AllocError>
-        ensures { IfOk result (λ room. room ≡ copies) }
+    /// With these ids.
+    pub(crate) fn of(alloc: Global, ids: CommandIds) -> Result<Room, AllocError>
+        ensures { IfOk result (λ room. room ≡ ids) }
     {
-        Ok(Room(Some(Box::new(alloc, copies)?)))
+        Ok(Room(Some(Box::new(alloc, ids)?)))
     }
 
-    /// The copies.
-    pub(crate) fn copies(self) -> Copies
+    /// The ids.
+    pub(crate) fn ids(self) -> CommandIds
         ensures { result ≡ self }
     {
         match self.0 {
-            Some(copies) => Box::into_inner(copies),
-            None => Copies {
+            Some(ids) => Box::into_inner(ids),
+            None => CommandIds {
                 own: ClOrdId {
                     member: 0,
                     id: Id::short(&[]),
                 },
-                order: Id::short(&[]),
-                shown: Id::short(&[]),
-                orig: ClOrdId {
+                copies: Copies {
                     member: 0,
-                    id: Id::short(&[]),
+                    order: Id::short(&[]),
+                    shown: Id::short(&[]),
+                    orig: ClOrdId {
+                        member: 0,
+                        id: Id::short(&[]),
+                    },
                 },
             },
         }

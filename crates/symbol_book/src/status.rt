@@ -1,5 +1,5 @@
 //! Status requests.
-ghost use Rattle.std.specs.Prelude.{◌≡◌, ◌+◌, ◌<◌, ◌≤◌, ◌++◌, Some, length, slice_get};
+ghost use Rattle.std.specs.Prelude.{◌≡◌, ◌+◌, ◌<◌, ◌≤◌, ◌++◌, [], Some, length, slice_get};
 ghost use Rattle.eager_meaning.specs.Showing.{view_of, row_of_order};
 ghost use Rattle.eager_meaning.specs.Step.{on_status};
 ghost use Rattle.eager_meaning.specs.declared.order.Order.{Order};
@@ -54,6 +54,7 @@ pub fn on_status<E: Engine + Drop, L: Ledger>(
     steps: &mut Steps<L>,
 ) -> u32
     requires agree { Agree E.buys E.sells E.best parts.old }
+    requires settled { parts.old.ids.placed ≡ [] }
     requires places { HasRoom (resting_in E.buys E.sells parts.old) parts.old }
     ensures reports { Reports event.now parts.old.log.list 1 (on_status room.orig.member room.orig.id side
         (state_in E.buys E.sells parts.old)).notices parts.new.log.list result }

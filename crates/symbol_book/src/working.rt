@@ -1,5 +1,5 @@
 //! Commands.
-ghost use Rattle.std.specs.Prelude.{◌≡◌, ◌+◌, ◌<◌, ◌≤◌, All, length};
+ghost use Rattle.std.specs.Prelude.{◌≡◌, ◌+◌, ◌<◌, ◌≤◌, [], All, length};
 ghost use Rattle.venue_words.specs.Best.{best_of};
 ghost use Rattle.venue_words.specs.Conditions.{IsTick};
 ghost use Rattle.eager_meaning.specs.Work.{bound, key_count};
@@ -31,9 +31,9 @@ fn work_request<E: Engine + Drop, L: Ledger>(
     room: Room,
     steps: &mut Steps<L>,
 ) -> u32
-    requires request { IsRequest event.now.command }
     requires tick { IsTick tick }
-    requires room { IsRoomFor event.now.command room }
+    requires room { IsRequest event.now.command × IsRoomFor event.now.command room }
+    requires settled { parts.old.ids.placed ≡ [] }
     requires engine { E.ready parts.old.engine (key_for tick event.now.command)
         × (E.latest parts.old.engine < event.now.number) }
     requires narrow { IsNarrow (key_for tick event.now.command) (E.width parts.old.engine)
@@ -43,6 +43,7 @@ fn work_request<E: Engine + Drop, L: Ledger>(
     requires agree { Agree E.buys E.sells E.best parts.old }
     requires places { HasRoom (resting_in E.buys E.sells parts.old) parts.old }
     ensures worked { AreWorked E.buys E.sells tick event.now parts.old parts.new result }
+    ensures settled { parts.new.ids.placed ≡ [] }
     ensures small { All IsSmall parts.new.orders.items }
     ensures most { steps.new
         ≤ steps.old + bound tick (state_in E.buys E.sells parts.old) event.now.number event.now.command }
@@ -52,24 +53,17 @@ fn work_request<E: Engine + Drop, L: Ledger>(
 {
     match &event.command {
         Command::Quote { .. } => unreachable!(),
-        Command::New { terms, .. } => on_new(
-            tick,
-            parts,
-            event,
-            &terms.get(),
-            room.copies(),
-            steps,
-        ),
-        Command::Cancel { .. } => on_cancel(tick, parts, event, room.copies(), steps),
+        Command::New { terms, .. } => on_new(tick, parts, event, &terms.get(), room.ids(), steps),
+        Command::Cancel { .. } => on_cancel(tick, parts, event, room.ids(), steps),
         Command::Replace { terms, .. } => on_replace(
             tick,
             parts,
             event,
             &terms.get(),
-            room.copies(),
+            room.ids(),
             steps,
         ),
-        Command::Status { side, .. } => on_status(parts, event, *side, room.copies(), steps),
+        Command::Status { side, .. } => on_status(parts, event, *side, room.ids().copies, steps),
     }
 }
 
@@ -84,15 +78,17 @@ pub fn work<E: Engine + Drop, L: Ledger>(
 ) -> u32
     requires tick { IsTick tick }
     requires room { IsRoomFor event.now.command room }
-    requires ready { E.ready parts.old.engine (key_for tick event.now.command) }
+    requires settled { parts.old.ids.placed ≡ [] }
+    requires engine { E.ready parts.old.engine (key_for tick event.now.command)
+        × (E.latest parts.old.engine < event.now.number) }
     requires narrow { IsNarrow (key_for tick event.now.command) (E.width parts.old.engine)
         (key_count (rows_in E.buys E.sells parts.old)) }
-    requires later { E.latest parts.old.engine < event.now.number }
     requires fits { (id_bytes event.now.command ≤ parts.old.orders.longest)
         × CanWork tick event.now.number event.now.command (state_in E.buys E.sells parts.old) }
     requires agree { Agree E.buys E.sells E.best parts.old }
     requires places { HasRoom (resting_in E.buys E.sells parts.old) parts.old }
     ensures worked { AreWorked E.buys E.sells tick event.now parts.old parts.new result }
+    ensures settled { parts.new.ids.placed ≡ [] }
     ensures small { All IsSmall parts.new.orders.items }
     ensures most { steps.new
         ≤ steps.old + bound tick (state_in E.buys E.sells parts.old) event.now.number event.now.command }

@@ -16,4 +16,4 @@ returns-clause-live g c =
     let lent : c.deref.result.now ≡ orders = search rules in
     let lent_entries : c.deref-2.result.now ≡ c.args.parts.now.entered.items = search rules in
     subst (λ (os : List Order). IsFound os rows (live_named c.args.room.now.orig.member c.args.room.now.orig.id os rows) c.find_live.result) lent
-    (c.find_live.ensures.live rows (subst (λ (os : List Order). AreEntered c.deref-2.result.now os rows) (sym lent) (subst (λ (es : List (Option Row)). AreEntered es orders rows) (sym lent_entries) c.requires.kept.entered_rows)))
+    (c.find_live.ensures.live rows (subst (λ (os : List Order). AreEntered c.deref-2.result.now os rows) (sym lent) (subst (λ (es : List (Option Row)). AreEntered es orders rows) (sym lent_entries) c.requires.agree.kept.entered_rows)))

@@ -47,7 +47,7 @@ invariant_of-self g c =
     let next : c.args.event.number ≡ length c.self.inside.journal.items + 1 = c.requires.number ∙ ap (λ (v : BookView). length v.journal + 1) (sym c.self.view_is) in
     let below : length c.self.inside.journal.items < c.self.inside.limit = subst (λ (v : BookView). length v.journal < v.limit) (sym c.self.view_is) c.requires.below in (
       rw c.push_reserved.ensures.items
-          (kept_next _ _ _ _ _ _ _ _ _ _ _ _ c.args.event _ _ _ _ _ _ _ _ _ _ c.self.invariant.0 c.work.ensures.count c.work.ensures.worked c.work.ensures.best c.work.ensures.latest c.work.ensures.small next below),
+          (kept_next _ _ _ _ _ _ _ _ _ _ _ _ c.args.event _ _ _ _ _ _ _ _ _ _ c.self.invariant.0 c.work.ensures.count c.work.ensures.worked c.work.ensures.best c.work.ensures.latest c.work.ensures.small c.work.ensures.settled next below),
       λ key e. cc,
     )
 

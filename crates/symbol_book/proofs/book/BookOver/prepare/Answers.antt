@@ -1,7 +1,5 @@
-use Rattle.std.proofs.Common.{◌≡◌, ◌≤◌, true, sym, subst, arith}
+use Rattle.std.proofs.Common.{◌≤◌, sym, subst, arith}
 use Rattle.venue_words.specs.declared.limits.TheConstants.{MAX_ID_BYTES}
-use Rattle.symbol_book.specs.Book.{BookView}
-use Rattle.symbol_book.specs.Commands.{takes_command}
 use Rattle.symbol_book.proofs.Fits.{id_within}
 use Rattle.symbol_book.proofs.Keeping.{few_orders}
 use Rattle.symbol_book.proofs.book.BookOver.prepare.Goals as goal
