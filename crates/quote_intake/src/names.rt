@@ -13,6 +13,7 @@ fn place_of(names: &[Bytes], name: &[u8]) -> Option<usize>
 }
 
 /// The number of a configured name: its place in the config's order, from 0 on.
+#[inline]
 pub fn number_in(names: &[Bytes], name: &[u8]) -> Option<u32>
     requires { length names.now < 2 ^ 32 }
     ensures value { result ≡ number_in names.now name.now }

@@ -4,6 +4,7 @@ ghost use Rattle.std.specs.Prelude.{◌≡◌, IfOk};
 use crate::id::{BoxedId, Id};
 use crate::terms::BoxedTerms;
 use std::alloc::{AllocError, Global};
+use std::mem::size_of;
 
 /// What a feed or a member asks of one symbol's book. Members and markets are numbered from 0.
 #[derive(Debug, Drop)]
@@ -93,3 +94,6 @@ pub struct Event {
     pub moment: i64,
     pub command: Command,
 }
+
+/// A journal keeps each event for as long as its book, so an event stays small.
+const _: () = prove!(size_of::<Event>() == 64);
