@@ -1,18 +1,17 @@
 -- What is said at a line, and where it stops.
-use Rattle.std.proofs.Common.{◌≡◌, ◌+◌, ◌⊎◌, inl, inr, Bool, true, false, if◌then◌else◌, List, [], ◌∷◌, ◌++◌, Some, None, Option, refl, sym, ◌∙◌, ap, subst, append-nil}
+use Rattle.std.proofs.Common.{◌≡◌, ◌+◌, inl, inr, Bool, true, false, if◌then◌else◌, List, [], ◌∷◌, ◌++◌, Some, None, refl, sym, ◌∙◌, subst, append-nil}
 use Rattle.std.specs.Prelude.{ℕ}
 use Rattle.listing.specs.Lines.{ended}
 use Rattle.listing.proofs.Handed.{appends_none, hands_none, hands_trans, stops_after, stops_early}
-use Rattle.audit_core.specs.Differing.{lines_text}
 use Rattle.venue_words.specs.declared.config.Config.{Config}
 use Rattle.venue_words.specs.declared.command.Event.{Event}
 use Rattle.audit_core.specs.declared.part.OpenPart.{OpenPart}
 use Rattle.audit_core.specs.declared.reading.Auditor.{Auditor}
-use Rattle.audit_core.specs.Ahead.{GoesBehind, IsHeard, Passes, Reaches, StopsIn, Takes, at, with_part}
+use Rattle.audit_core.specs.Ahead.{GoesBehind, IsHeard, Reaches, StopsIn, Takes, at}
 use Rattle.audit_core.proofs.Standing.{config_behind, opened_behind}
 use Rattle.audit_core.proofs.Taking.{Opens, opens_behind}
 use Rattle.audit_core.specs.Progress.{Auditing, HasRead, IsOpen, OpenIf, behind_part, end_text, is_read}
-use Rattle.audit_core.specs.Telling.{Begins, Output, Says, SaysOn, Telling}
+use Rattle.audit_core.specs.Telling.{Begins, Output, Says, Telling}
 
 -- ---- nothing more
 

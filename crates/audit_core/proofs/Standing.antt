@@ -12,7 +12,7 @@ use Rattle.listing.specs.Lines.{symbol_line, event_line, ended}
 use Rattle.listing.specs.Listing.{Part, listing, listing_from, part_text}
 use Rattle.audit_core.specs.declared.part.OpenPart.{OpenPart}
 use Rattle.audit_core.specs.Audited.{IsPart, AreParts}
-use Rattle.audit_core.specs.Progress.{IsOpen, IsRead, Grows, Stands, ReadsPart, report_lines, part_front, is_read, journal_in, Auditing, OpenIf, HasRead, behind_part, end_text}
+use Rattle.audit_core.specs.Progress.{IsOpen, IsRead, Grows, Stands, ReadsPart, report_lines, part_front, is_read, Auditing, OpenIf, HasRead, behind_part, end_text}
 use Rattle.audit_core.specs.Telling.{Telling, Lists, day_text, day_text_from, events_text, journal_text}
 
 -- ---- the start and the end

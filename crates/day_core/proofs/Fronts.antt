@@ -3,7 +3,7 @@ use Rattle.std.proofs.Common.{◌≡◌, ◌≢◌, ℕ, suc, ◌+◌, ◌≤◌
 use Rattle.std.proofs.lemmas.List.{take_all, take_more, nil_from_length, length-take-le, append_cancel_left}
 use Rattle.std.proofs.lemmas.Option.{get_or_from_slice_get, slice_get_within}
 use Rattle.std.proofs.Math.ListN.{drop_of_length-le}
-use Rattle.std.proofs.Math.Seq.{drop-cons, drop-append_seam}
+use Rattle.std.proofs.Math.Seq.{drop-cons}
 use Rattle.day_core.specs.Agreement.{IsFront, kept}
 
 pub front_all : (lines : List (List ℕ)) → IsFront lines lines

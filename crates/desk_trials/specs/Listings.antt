@@ -1,8 +1,7 @@
 -- What a floor is seen as that lists what is submitted to its one symbol, for tests.
-use Rattle.std.specs.Prelude.{◌≡◌, ℕ, ◌==◌, Bool, true, false, if◌then◌else◌, refl, List, [], ◌∷◌, None, length}
+use Rattle.std.specs.Prelude.{◌≡◌, ℕ, ◌==◌, Bool, true, false, refl, List, [], ◌∷◌, None, length}
 use Rattle.std.specs.List.{range_with_len}
 use Rattle.venue_words.specs.declared.command.Event.{Event}
-use Rattle.venue_words.specs.declared.report.Report.{Report}
 use Rattle.venue_words.specs.Floors.{FloorMark, SymbolView}
 
 abbrev pub listing_mark : ℕ → ℕ → FloorMark

@@ -6,6 +6,7 @@ ghost use Rattle.session_stream.specs.Work.{answered, work_of_frame, work_at_lim
 ghost use Rattle.drop_copy.specs.Answering.{refuses};
 ghost use Rattle.drop_copy.specs.Desks.{AreUnread};
 
+use fix_fields::Frame;
 use fix_frames::{Framer, Next};
 use fix_write::MessageType;
 use member_gate::business::business_body;
@@ -13,7 +14,6 @@ use session_core::lookup::text_in;
 use session_core::tags::MSG_TYPE;
 use session_core::{Request, Session, Turn};
 use std::alloc::Global;
-use venue_words::limits::MAX_FRAME_BYTES;
 use venue_words::{Bytes, NoMemory};
 
 /// Answers a message that the session handed out: it takes none.
@@ -64,14 +64,13 @@ fn work_turn(
 fn work_frame(
     alloc: Global,
     session: &mut Session,
-    frame: &[u8],
+    frame: Frame<'_>,
     moment: i64,
     replies: &mut Vec<Bytes>,
 ) -> Result<(), NoMemory>
-    requires { length frame.now ≤ MAX_FRAME_BYTES }
-    ensures session { OnOk result (session.new ≡ (work_of_frame (refuses moment) moment session.old frame.now).session) }
+    ensures session { OnOk result (session.new ≡ (work_of_frame (refuses moment) moment session.old frame.entry.bytes.now).session) }
     ensures replies { OnOk result (replies.new.items
-        ≡ replies.old.items ++ (work_of_frame (refuses moment) moment session.old frame.now).replies) }
+        ≡ replies.old.items ++ (work_of_frame (refuses moment) moment session.old frame.entry.bytes.now).replies) }
 {
     let turn = session.take(frame, moment)?;
     work_turn(alloc, session, turn, moment, replies)

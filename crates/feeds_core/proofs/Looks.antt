@@ -1,15 +1,13 @@
 -- A line is noted and weighed.
-use Rattle.std.proofs.Common.{◌≡◌, ℕ, Bool, true, false, cond, nat_lt, List, Option, None, Some, option_map, Result, Ok, Err, refl}
-use Rattle.venue_words.specs.declared.limits.TheConstants.{MAX_CONFIG_BYTES}
+use Rattle.std.proofs.Common.{◌≡◌, ℕ, Bool, true, false, cond, List, Option, None, Some, option_map, Result, Ok, Err, refl}
 use Rattle.script_text.specs.declared.body.Line.{Line}
 use Rattle.script_text.specs.declared.fault.LineFault.{LineFault}
-use Rattle.script_text.specs.declared.fault.LineFault.TheVariants.{Bad, Limit}
+use Rattle.script_text.specs.declared.fault.LineFault.TheVariants.{Bad}
 use Rattle.script_text.specs.declared.fault.LineCause.TheVariants.{SharedMember}
-use Rattle.script_text.specs.declared.fault.LimitCause.TheVariants.{Bytes}
-use Rattle.line_reader.specs.Over.{over, over_fault}
+use Rattle.line_reader.specs.Over.{over}
 use Rattle.line_work.specs.Refusing.{fault_at}
-use Rattle.feeds_core.specs.FeedLines.{named_by, is_taken, fault_in, fault_of, or_else}
-use Rattle.feeds_core.specs.Naming.{Notes, first_shared, shared_fault, refused_by, naming_of}
+use Rattle.feeds_core.specs.FeedLines.{is_taken, fault_in, fault_of, or_else}
+use Rattle.feeds_core.specs.Naming.{shared_fault, refused_by, naming_of}
 use Rattle.feeds_core.specs.declared.naming.Naming.{Naming}
 
 -- what the limit and a taken member make of a line that can be read

@@ -2,11 +2,10 @@
 use Rattle.std.proofs.Common.{◌<◌, ℕ, ◌-◌, List, [], ◌∷◌, map, refl, ap, ◌∙◌, arith}
 use Rattle.std.specs.List.{All}
 use Rattle.std.proofs.lemmas.List.Elements.{All-nil, All-cons, All-head, All-tail}
-use Rattle.turn_gate.specs.Rule.{whole}
 use Rattle.turn_gate.specs.Seats.{SeatState}
-use Rattle.venue_core.specs.Joining.{IsFirstSeat, after_split, split_off}
+use Rattle.venue_core.specs.Joining.{after_split, split_off}
 use Rattle.venue_core.specs.SeatLaws.{gates_after_split, gates_split_off}
-use Rattle.venue_core.specs.Venues.{VenueId, AreSeatsOf}
+use Rattle.venue_core.specs.Venues.{VenueId}
 use Rattle.feeds_core.specs.Joined.{IsIdle, AreIdleSeats}
 
 after_idle : (parts : ℕ) (seats : List SeatState) → All (IsIdle parts) seats → All (IsIdle (parts - 1)) (map after_split seats)

@@ -1,12 +1,14 @@
-//! Reads the fields of a message and the values that stand in them.
+//! Reads the fields of a message and the values that stand in them, and lends the frame that they stand in.
 #![tactic(auto)]
 
 pub mod field;
 pub mod forms;
+pub mod frame;
 pub mod moments;
 pub mod splitting;
 
 pub use field::{Field, FieldFault};
 pub use forms::{amount, number};
+pub use frame::Frame;
 pub use moments::{FIRST_MOMENT, LAST_MOMENT, moment};
 pub use splitting::fields;

@@ -1,8 +1,11 @@
 -- What a step of the framer says of the stream.
-use Rattle.std.proofs.Common.{◌≡◌, ℕ, ◌+◌, ◌-◌, ◌≤◌, List, ◌++◌, length, take, drop, sym, ◌∙◌, ap, subst, arith, length-drop, ◌⊎◌, inl, inr}
+use Rattle.std.proofs.Common.{◌≡◌, ℕ, ◌+◌, ◌-◌, ◌≤◌, List, ◌++◌, length, take, drop, sym, ◌∙◌, ap, subst, arith, length-drop, length-take, ◌⊎◌, inl, inr}
 use Rattle.std.proofs.lemmas.List.{take_rest, drop-drop, length-take-le}
+use Rattle.venue_words.specs.declared.limits.TheConstants.{MAX_FRAME_BYTES}
+use Rattle.fix_fields.specs.Content.{IsFront}
 use Rattle.fix_frames.specs.declared.place.Place.{Place}
 use Rattle.fix_frames.specs.declared.place.Place.TheVariants.{Passed, Unfinished, Long, Whole}
+use Rattle.fix_frames.specs.FoundLaws.{whole_found}
 use Rattle.fix_frames.specs.PlaceLaws.{place_at-short}
 use Rattle.fix_frames.specs.Streams.{Stream, gives, HasGiven, HasWaited, HasExceeded, next_from, Skips}
 use Rattle.fix_frames.specs.Search.{IsFound, EndsWithin}
@@ -24,13 +27,13 @@ moved slice kept at place other e p inside skips found fits =
     let whole : HasFound slice at place = record { inside = inside; skips = skips; found = found; fits = fits } in
     subst (λ (k : List ℕ). HasFound k at other) e (subst (λ (q : Place). HasFound slice at q) p whole)
 
-pub given : (old new : Stream) (frame : List ℕ) (at size : ℕ) → HasFound old.kept at (Whole size) → new.passed ≡ old.passed + (at + size) → new.kept ≡ drop (at + size) old.kept → new.held ≡ old.held → frame ≡ take size (drop at old.kept) → HasGiven old new frame
-given old new frame at size f passed kept held e =
+pub given : (old new : Stream) (frame : List ℕ) (at size front : ℕ) → HasFound old.kept at (Whole size front) → new.passed ≡ old.passed + (at + size) → new.kept ≡ drop (at + size) old.kept → new.held ≡ old.held → frame ≡ take size (drop at old.kept) → HasGiven old new frame
+given old new frame at size front f passed kept held e =
     let all : length frame ≡ size = ap length e ∙ length-take-le size (drop at old.kept) (omega (arith, f.fits, length-drop at old.kept)) in
     let size_is : at + size ≡ at + length frame = omega arith in (
       at,
       record { passed = passed ∙ ap (λ (n : ℕ). old.passed + n) size_is; kept = kept ∙ ap (λ (n : ℕ). drop n old.kept) size_is; inside = omega (arith, f.fits); held = held },
-      λ more. next_from-whole old.kept more at size f.skips f.found ∙ ap (gives at) (sym e),
+      λ more. next_from-whole old.kept more at size front f.skips f.found ∙ ap (gives at) (sym e),
     )
 
 pub exceeded : (old new : Stream) (at : ℕ) → HasFound old.kept at Long → new.passed ≡ old.passed + at → new.kept ≡ drop at old.kept → new.held ≡ old.held → HasExceeded old new
@@ -60,3 +63,9 @@ held_on many view old v e = sym e ∙ ap (λ (s : Stream). s.held) v
 pub frame_is : (slice items : List ℕ) (start at size begin many : ℕ) (view old : Stream) → slice ≡ items → view ≡ old → view.kept ≡ drop start items → begin ≡ start + at → many ≡ size → take many (drop begin slice) ≡ take size (drop at old.kept)
 frame_is slice items start at size begin many view old s v k b m =
     ap (λ (j : ℕ). take j (drop begin slice)) m ∙ ap (λ (r : List ℕ). take size (drop begin r)) s ∙ ap (take size) (cut_twice items start at begin view old v k b)
+
+-- the content of the frame that is cut out begins where it was found to begin
+pub found_content : (kept cut : List ℕ) (at size front : ℕ) → HasFound kept at (Whole size front) → cut ≡ take size (drop at kept) → (length cut ≤ MAX_FRAME_BYTES) × IsFront cut front
+found_content kept cut at size front f e =
+    let w = whole_found (drop at kept) size front f.found.1 in
+    (omega (arith, w.1, length-take size (drop at kept), ap length e), subst (λ (c : List ℕ). IsFront c front) (sym e) w.2)

@@ -9,6 +9,7 @@ use Rattle.std.proofs.lemmas.List.{take_at, drop_at, drop-drop, take_all, take-a
 use Rattle.std.proofs.Math.Seq.{take-append-add}
 use Rattle.venue_words.specs.declared.limits.TheConstants.{MAX_FRAME_BYTES}
 use lib.Pointwise.{bytes_decides}
+use Rattle.fix_fields.specs.Content.{IsFront}
 use Rattle.fix_fields.specs.Forms.{numeral}
 use Rattle.fix_write.specs.Digits.{three_digits}
 use Rattle.fix_frames.specs.declared.place.Place.TheVariants.{Passed, Unfinished, Long, Whole}
@@ -16,6 +17,7 @@ use Rattle.fix_frames.specs.declared.place.BodyLength.{BodyLength}
 use Rattle.fix_frames.specs.declared.place.BodyLength.TheVariants.{Bad, Partial, Declared}
 use Rattle.fix_frames.specs.Frames.{header, check_sum, IsFrame}
 use Rattle.fix_frames.specs.FrameLaws.{digit_is, length-header, length-three}
+use Rattle.fix_frames.specs.FrontLaws.{numeral_has_no_end, front_behind}
 use Rattle.fix_frames.specs.Places.{length_after, body_length, begins, begin_string, has_check_sum, is_frame, judged, place_at}
 use Rattle.fix_frames.specs.PlaceLaws.{few_more, body_length-one, body_length-two}
 
@@ -204,33 +206,54 @@ declared_frame bytes d v e opens enough h =
     let counts : numeral l.ds ≡ Some (length content) = l.counts ∙ ap (λ (m : ℕ). Some m) (sym len) in
     subst IsFrame (sym frame) (found_frame l.ds content trailer (omega (arith, l.some, l.many)) (omega (arith, l.few, l.many)) counts seven test)
 
-judged_found : (found : BodyLength) (bytes : List ℕ) (n : ℕ) → body_length (drop 11 bytes) ≡ found → begins bytes ≡ true → judged found bytes ≡ Whole n → IsFrame (take n bytes) × (n ≤ MAX_FRAME_BYTES)
-unfolding judged
-judged_found Bad bytes n e opens h = absurd (cc)
-judged_found Partial bytes n e opens h = absurd (cc)
-judged_found (Declared d v) bytes n e opens h =
+-- its content begins behind what was read
+declared_front : (bytes : List ℕ) (d v : ℕ) → body_length (drop 11 bytes) ≡ Declared d v → begins bytes ≡ true → 21 + d + v ≤ length bytes → IsFront (take (21 + d + v) bytes) (14 + d)
+declared_front bytes d v e opens enough =
+    let l = has_length (drop 11 bytes) d v e in
+    let o = header l.ds in
     let size = 21 + d + v in
-    let last = cond (is_frame (14 + d) v (take size bytes)) (Whole size) Passed in
-    elim (chosen (ltb MAX_FRAME_BYTES size) Long (cond (ltb (length bytes) size) Unfinished last) (Whole n) h) [
-      | inl p ↦ absurd (let x : Long ≡ Whole n = p.1 in cc)
-      | inr p ↦ elim (chosen (ltb (length bytes) size) Unfinished last (Whole n) p.1) [
-        | inl q ↦ absurd (let x : Unfinished ≡ Whole n = q.1 in cc)
-        | inr q ↦ elim (chosen (is_frame (14 + d) v (take size bytes)) (Whole size) Passed (Whole n) q.1) [
+    let whole : bytes ≡ o ++ l.rest =
+    front_more begin_string bytes opens ∙ ap (λ (x : List ℕ). begin_string ++ x) l.bytes_are ∙ sym (ap (λ (x : List ℕ). begin_string ++ 57 ∷ 61 ∷ x) (append_assoc l.ds (1 ∷ []) l.rest)) in
+    let count : size ≡ length o + (v + 7) = omega (arith, length-header l.ds, l.many) in
+    let frame : take size bytes ≡ o ++ take (v + 7) l.rest = ap (take size) whole ∙ ap (λ (m : ℕ). take m (o ++ l.rest)) count ∙ take-append-add o l.rest (v + 7) in
+    let front : IsFront (o ++ take (v + 7) l.rest) (14 + length l.ds) = front_behind l.ds (take (v + 7) l.rest) (numeral_has_no_end l.ds v l.counts) in
+    subst (λ (f : List ℕ). IsFront f (14 + d)) (sym frame) (subst (λ (m : ℕ). IsFront (o ++ take (v + 7) l.rest) (14 + m)) l.many front)
+
+judged_found : (found : BodyLength) (bytes : List ℕ) (n front : ℕ) → body_length (drop 11 bytes) ≡ found → begins bytes ≡ true → judged found bytes ≡ Whole n front → IsFrame (take n bytes) × (n ≤ MAX_FRAME_BYTES) × IsFront (take n bytes) front
+unfolding judged
+judged_found Bad bytes n front e opens h = absurd (cc)
+judged_found Partial bytes n front e opens h = absurd (cc)
+judged_found (Declared d v) bytes n front e opens h =
+    let size = 21 + d + v in
+    let here = Whole size (14 + d) in
+    let there = Whole n front in
+    let last = cond (is_frame (14 + d) v (take size bytes)) here Passed in
+    elim (chosen (ltb MAX_FRAME_BYTES size) Long (cond (ltb (length bytes) size) Unfinished last) there h) [
+      | inl p ↦ absurd (let x : Long ≡ Whole n front = p.1 in cc)
+      | inr p ↦ elim (chosen (ltb (length bytes) size) Unfinished last there p.1) [
+        | inl q ↦ absurd (let x : Unfinished ≡ Whole n front = q.1 in cc)
+        | inr q ↦ elim (chosen (is_frame (14 + d) v (take size bytes)) here Passed there q.1) [
           | inl s ↦
-              let x : Whole size ≡ Whole n = s.1 in
+              let x : Whole size (14 + d) ≡ Whole n front = s.1 in
               let same : size ≡ n = cc in
-              let frame = declared_frame bytes d v e opens (ltb-false (length bytes) size q.0) s.0 in
-              (subst (λ (m : ℕ). IsFrame (take m bytes)) same frame, omega (arith, ltb-false MAX_FRAME_BYTES size p.0))
-          | inr s ↦ absurd (let x : Passed ≡ Whole n = s.1 in cc)
+              let begin : 14 + d ≡ front = cc in
+              let enough = ltb-false (length bytes) size q.0 in
+              let frame = declared_frame bytes d v e opens enough s.0 in
+              let content = declared_front bytes d v e opens enough in (
+                subst (λ (m : ℕ). IsFrame (take m bytes)) same frame,
+                omega (arith, ltb-false MAX_FRAME_BYTES size p.0),
+                subst (λ (m : ℕ). IsFront (take m bytes) front) same (subst (IsFront (take size bytes)) begin content),
+              )
+          | inr s ↦ absurd (let x : Passed ≡ Whole n front = s.1 in cc)
         ]
       ]
     ]
 
--- what is found at the front of bytes is a frame within the limit
-pub whole_found : (bytes : List ℕ) (n : ℕ) → place_at bytes ≡ Whole n → IsFrame (take n bytes) × (n ≤ MAX_FRAME_BYTES)
+-- what is found at the front of bytes is a frame within the limit, whose content begins where it was found to begin
+pub whole_found : (bytes : List ℕ) (n front : ℕ) → place_at bytes ≡ Whole n front → IsFrame (take n bytes) × (n ≤ MAX_FRAME_BYTES) × IsFront (take n bytes) front
 unfolding place_at
-whole_found bytes n h =
-    elim (chosen (begins bytes) (judged (body_length (drop 11 bytes)) bytes) Passed (Whole n) h) [
-      | inl p ↦ judged_found (body_length (drop 11 bytes)) bytes n refl p.0 p.1
-      | inr p ↦ absurd (let x : Passed ≡ Whole n = p.1 in cc)
+whole_found bytes n front h =
+    elim (chosen (begins bytes) (judged (body_length (drop 11 bytes)) bytes) Passed (Whole n front) h) [
+      | inl p ↦ judged_found (body_length (drop 11 bytes)) bytes n front refl p.0 p.1
+      | inr p ↦ absurd (let x : Passed ≡ Whole n front = p.1 in cc)
     ]

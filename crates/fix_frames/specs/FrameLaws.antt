@@ -102,7 +102,7 @@ is_frame-spelled frame f =
     let sum_there : has_check_sum (k + length c) frame ≡ true = has_check_sum-spelled (o ++ c) frame (k + length c) f.bytes (length-append o c ∙ ap (λ (n : ℕ). n + length c) (length-header f.digits)) in
     rw (opens, ends', sum_there) refl
 
-judged-spelled : (frame : List ℕ) (f : IsFrame frame) → length frame ≤ MAX_FRAME_BYTES → judged (Declared (length f.digits) (length f.content)) frame ≡ Whole (length frame)
+judged-spelled : (frame : List ℕ) (f : IsFrame frame) → length frame ≤ MAX_FRAME_BYTES → judged (Declared (length f.digits) (length f.content)) frame ≡ Whole (length frame) (14 + length f.digits)
 unfolding judged
 judged-spelled frame f fits =
     let size = 21 + length f.digits + length f.content in
@@ -111,10 +111,10 @@ judged-spelled frame f fits =
     let there : ltb (length frame) size ≡ false = grind (arith, nat_tests) in
     let all : take size frame ≡ frame = take_all size frame (omega arith) in
     let whole : is_frame (14 + length f.digits) (length f.content) frame ≡ true = is_frame-spelled frame f in
-    rw (small, there, all, whole) (ap Whole (sym long))
+    rw (small, there, all, whole) (ap (λ (m : ℕ). Whole m (14 + length f.digits)) (sym long))
 
 -- a frame that is spelled is found at its first byte
-pub place_at-frame : (frame : List ℕ) → IsFrame frame → length frame ≤ MAX_FRAME_BYTES → place_at frame ≡ Whole (length frame)
+pub place_at-frame : (frame : List ℕ) (f : IsFrame frame) → length frame ≤ MAX_FRAME_BYTES → place_at frame ≡ Whole (length frame) (14 + length f.digits)
 unfolding place_at
 place_at-frame frame f fits =
     let c = f.content in

@@ -2,6 +2,7 @@ pub mod FoundLaws
 pub mod FrameLaws
 pub mod FramedLaws
 pub mod Frames
+pub mod FrontLaws
 pub mod MomentLaws
 pub mod NextLaws
 pub mod PlaceLaws

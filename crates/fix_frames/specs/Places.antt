@@ -59,7 +59,7 @@ judged (Declared digits value) bytes =
     let size = 21 + digits + value in
     if nat_lt MAX_FRAME_BYTES size then Long
     else (if nat_lt (length bytes) size then Unfinished
-    else (if is_frame (14 + digits) value (take size bytes) then Whole size else Passed))
+    else (if is_frame (14 + digits) value (take size bytes) then Whole size (14 + digits) else Passed))
 
 -- what stands at the front of bytes
 unfoldable pub place_at : List ℕ → Place

@@ -12,7 +12,8 @@ use Rattle.fix_frames.specs.Reading.{none_yet, only_too_long, with_frames, behin
 pub record LiesIn (bytes : List ℕ) (n : ℕ) (frame : List ℕ) : Type 0 where
   pub some : 0 < length frame
   pub inside : n + length frame ≤ length bytes
-  pub whole : place_at (drop n bytes) ≡ Whole (length frame)
+  pub front : ℕ
+  pub whole : place_at (drop n bytes) ≡ Whole (length frame) front
   pub same : take (length frame) (drop n bytes) ≡ frame
   pub before : (k : ℕ) → k < n → place_at (drop k bytes) ≡ Passed
 
@@ -29,16 +30,17 @@ lies_at Passed bytes (gives k other) n frame e further h =
     further k e (ap (gives k) same) count
 lies_at Unfinished bytes rest n frame e further h = absurd (cc)
 lies_at Long bytes rest n frame e further h = absurd (cc)
-lies_at (Whole size) bytes rest n frame e further h =
+lies_at (Whole size front) bytes rest n frame e further h =
     let none : 0 ≡ n = cc in
     let same : take size bytes ≡ frame = cc in
-    let fits = place_at-fits bytes size e in
-    let large = place_at-large bytes size e in
+    let fits = place_at-fits bytes size front e in
+    let large = place_at-large bytes size front e in
     let long : length frame ≡ size = ap length (sym same) ∙ length-take-le size bytes fits in
     record {
       some = omega arith;
       inside = omega arith;
-      whole = ap (λ (m : ℕ). place_at (drop m bytes)) (sym none) ∙ e ∙ ap Whole (sym long);
+      front = front;
+      whole = ap (λ (m : ℕ). place_at (drop m bytes)) (sym none) ∙ e ∙ ap (λ (m : ℕ). Whole m front) (sym long);
       same = ap (λ (m : ℕ). take (length frame) (drop m bytes)) (sym none) ∙ ap (λ (m : ℕ). take m bytes) long ∙ same;
       before = λ k l. absurd (omega arith);
     }
@@ -53,6 +55,7 @@ lies_in (b ∷ bs) n frame h =
     record {
       some = more.some;
       inside = omega (arith, more.inside);
+      front = more.front;
       whole = ap place_at moved ∙ more.whole;
       same = ap (take (length frame)) moved ∙ more.same;
       before = before_more b bs n k here next more.before;
@@ -116,3 +119,9 @@ reading-exceeded old new more h = at_answer (old.kept ++ more) exceeds (h.2 more
 -- and so it is of the bytes that are kept then
 pub reading-exceeded_on : (old new : Stream) (more : List ℕ) → HasExceeded old new → reading_of (new.kept ++ more) ≡ only_too_long
 reading-exceeded_on old new more h = at_answer (new.kept ++ more) exceeds (h.3 more)
+
+-- a frame that was given leaves fewer bytes
+pub given_shorter : (old new : Stream) (frame : List ℕ) → HasGiven old new frame → length new.kept < length old.kept
+given_shorter old new frame h =
+    let l = lies_in (old.kept ++ []) h.0 frame (h.2 []) in
+    omega (arith, l.some, h.1.inside, ap length h.1.kept, length-drop (h.0 + length frame) old.kept)

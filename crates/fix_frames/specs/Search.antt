@@ -11,5 +11,5 @@ IsFound bytes place = (11 ≤ length bytes) × (place_at bytes ≡ place)
 
 -- a whole frame ends among so many bytes
 abbrev pub EndsWithin : ℕ → ℕ → Place → Type 0
-EndsWithin total at (Whole size) = at + size ≤ total
+EndsWithin total at (Whole size front) = at + size ≤ total
 EndsWithin total at place = Unit {0}

@@ -52,11 +52,11 @@ next_from-few (b ∷ bs) h =
     ap (λ (p : Place). answer_at p (b ∷ bs) (next_from bs)) (place_at-few (b ∷ bs) h) ∙ ap (advanced 1) (next_from-few bs (omega arith))
 
 -- a frame that was found is the next, whatever follows
-pub next_from-whole : (bytes more : List ℕ) (at n : ℕ) → Skips bytes at → IsFound (drop at bytes) (Whole n) → next_from (bytes ++ more) ≡ gives at (take n (drop at bytes))
-next_from-whole bytes more at n skips found =
-    let known : Whole n ≡ Unfinished → ⊥ = λ u. cc in
-    let here = at_place (drop at bytes) more (Whole n) found.0 found.1 known in
-    let whole : take n (drop at bytes ++ more) ≡ take n (drop at bytes) = take-append-le n (drop at bytes) more (place_at-fits (drop at bytes) n found.1) in
+pub next_from-whole : (bytes more : List ℕ) (at n front : ℕ) → Skips bytes at → IsFound (drop at bytes) (Whole n front) → next_from (bytes ++ more) ≡ gives at (take n (drop at bytes))
+next_from-whole bytes more at n front skips found =
+    let known : Whole n front ≡ Unfinished → ⊥ = λ u. cc in
+    let here = at_place (drop at bytes) more (Whole n front) found.0 found.1 known in
+    let whole : take n (drop at bytes ++ more) ≡ take n (drop at bytes) = take-append-le n (drop at bytes) more (place_at-fits (drop at bytes) n front found.1) in
     let none : at + 0 ≡ at = omega arith in
     skips more ∙ ap (advanced at) (here ∙ ap (gives 0) whole) ∙ ap (λ (k : ℕ). gives k (take n (drop at bytes))) none
 
@@ -87,10 +87,10 @@ pub ends_within : (bytes : List ℕ) (at : ℕ) (place : Place) → at ≤ lengt
 ends_within bytes at Passed inside e = tt
 ends_within bytes at Unfinished inside e = tt
 ends_within bytes at Long inside e = tt
-ends_within bytes at (Whole size) inside e = omega (arith, place_at-fits (drop at bytes) size e, length-drop at bytes)
+ends_within bytes at (Whole size front) inside e = omega (arith, place_at-fits (drop at bytes) size front e, length-drop at bytes)
 
 pub found_here : (bytes : List ℕ) (place : Place) → 11 ≤ length bytes → place_at bytes ≡ place → (place ≡ Passed → ⊥) → IsFound bytes place
 found_here bytes Passed long e other = absurd (other refl)
 found_here bytes Unfinished long e other = (long, e)
 found_here bytes Long long e other = (long, e)
-found_here bytes (Whole size) long e other = (long, e)
+found_here bytes (Whole size front) long e other = (long, e)

@@ -24,7 +24,7 @@ abbrev pub answer_at : Place → List ℕ → Answer → Answer
 answer_at Passed bytes behind = advanced 1 behind
 answer_at Unfinished bytes behind = waits
 answer_at Long bytes behind = exceeds
-answer_at (Whole size) bytes behind = gives 0 (take size bytes)
+answer_at (Whole size front) bytes behind = gives 0 (take size bytes)
 
 -- what comes next from the front of bytes on: the first place that is not passed over decides
 abbrev pub next_from : List ℕ → Answer
@@ -76,6 +76,6 @@ HasExceeded old new =
 
 -- what an answer says of the stream before and after it
 abbrev pub IsNext : Stream → Next → Stream → Type 0
-IsNext old (Frame bytes) new = HasGiven old new bytes.now
+IsNext old (Frame frame) new = HasGiven old new frame.bytes.now
 IsNext old Wait new = HasWaited old new
 IsNext old TooLong new = HasExceeded old new

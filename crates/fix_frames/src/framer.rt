@@ -4,6 +4,7 @@ ghost use Rattle.fix_frames.specs.Streams.{Skips, beginning};
 ghost use Rattle.fix_frames.specs.Search.{IsFound, EndsWithin};
 
 use crate::place::{Place, place_at};
+use fix_fields::Frame;
 use std::alloc::Global;
 use std::marker::Model;
 use venue_words::NoMemory;
@@ -12,10 +13,10 @@ use venue_words::NoMemory;
 const BEGIN_STRING_SIZE: usize = 11;
 
 /// What a framer answers.
-#[derive(Clone, Copy, Debug)]
+#[derive(Debug, Drop)]
 pub enum Next<'a> {
     /// The next frame, from BeginString (8) to CheckSum (10).
-    Frame(&'a [u8]),
+    Frame(Frame<'a>),
     /// There is no further frame yet.
     Wait,
     /// The next frame declares more bytes than `MAX_FRAME_BYTES` in all. The framer answers so from then on. What is
@@ -125,11 +126,11 @@ impl Framer {
         self.start += at;
         self.passed += at as u64;
         match place {
-            Place::Whole(size) => {
+            Place::Whole { size, front } => {
                 let begin = self.start;
                 self.start += size;
                 self.passed += size as u64;
-                Next::Frame(&self.bytes[begin..begin + size])
+                Next::Frame(Frame::with_front(&self.bytes[begin..begin + size], front))
             }
             Place::Long => Next::TooLong,
             Place::Passed | Place::Unfinished => Next::Wait,

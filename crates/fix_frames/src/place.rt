@@ -15,8 +15,8 @@ pub(crate) enum Place {
     Unfinished,
     /// A frame that declares more bytes than a frame may have.
     Long,
-    /// A frame of so many bytes.
-    Whole(usize),
+    /// A frame of so many bytes, whose content begins behind its first `front` bytes.
+    Whole { size: usize, front: usize },
 }
 
 /// What stands where BodyLength is wanted.
@@ -125,8 +125,9 @@ fn sized(digits: usize, value: usize, bytes: &[u8]) -> Place
     if bytes.len() < size {
         return Place::Unfinished;
     }
-    if is_frame(14 + digits, value, &bytes[..size]) {
-        Place::Whole(size)
+    let front = 14 + digits;
+    if is_frame(front, value, &bytes[..size]) {
+        Place::Whole { size, front }
     } else {
         Place::Passed
     }

@@ -1,7 +1,7 @@
 -- Pieces that are put one after the other.
 use Rattle.std.proofs.Common.{◌≡◌, ◌≤◌, ◌<◌, ◌+◌, ◌-◌, ◌++◌, ℕ, zero, suc, List, [], ◌∷◌, Option, None, Some, take, drop, length, min, get_or, refl, sym, ◌∙◌, ap, subst, arith, add-one, append_assoc, append-nil}
-use Rattle.std.proofs.Math.Seq.{take-append-add, drop-cons}
-use Rattle.std.proofs.lemmas.List.{take-append-le, take-append-drop}
+use Rattle.std.proofs.Math.Seq.{take-append-add}
+use Rattle.std.proofs.lemmas.List.{take-append-le}
 use Rattle.std.proofs.lemmas.Grind.{common_steps}
 use Rattle.io_edge.specs.Links.{Told, Tells, WasPut}
 use Rattle.link_work.specs.Turns.{joined}

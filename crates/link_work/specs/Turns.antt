@@ -1,12 +1,8 @@
 -- Turns over a link: what it answers at which moments, and what is put.
-use Rattle.std.specs.Prelude.{◌≡◌, ◌≤◌, ◌++◌, ◌∷◌, [], ℕ, ℤ, List, Option, Some, None, Result, Ok, Err, take, length, map, MatchResult}
+use Rattle.std.specs.Prelude.{◌≡◌, ◌++◌, ◌∷◌, [], ℕ, ℤ, List, Option, Some, None, Result, Ok, Err, map, MatchResult}
 use Rattle.std.specs.List.{flat_map}
-use Rattle.venue_words.specs.Causes.{Rose}
 use Rattle.io_edge.specs.declared.edge.Failed.{Failed}
-use Rattle.io_edge.specs.declared.link.Pulled.{Pulled}
-use Rattle.io_edge.specs.declared.link.Pulled.TheVariants.{Bytes, Quiet, End}
-use Rattle.io_edge.specs.Links.{Answer, Told, Tells, Gave, CountsEnds, answer_of}
-use Rattle.io_edge.specs.Links.Answer.{piece, quiet, ended}
+use Rattle.io_edge.specs.Links.{Answer, Told, Tells, CountsEnds, answer_of}
 use Rattle.link_work.specs.declared.asking.Asked.{Asked}
 
 -- the bytes of frames, one behind the other

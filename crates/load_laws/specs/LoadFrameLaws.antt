@@ -1,5 +1,5 @@
 -- A frame that is fed to a stream of whole frames comes out alone, and a frame gives at most one command.
-use Rattle.std.proofs.Common.{◌≡◌, ℕ, ◌+◌, ◌<◌, ◌≤◌, nat_lt, ◌==◌, Bool, true, false, not, cond, ℤ, List, [], ◌∷◌, ◌++◌, length, take, drop, Option, Some, None, Result, Ok, Err, refl, sym, ◌∙◌, ap, subst, append_assoc, append-nil, drop_at, take_all, arith}
+use Rattle.std.proofs.Common.{◌≡◌, ℕ, ◌+◌, ◌<◌, ◌≤◌, nat_lt, Bool, true, false, not, cond, ℤ, List, [], ◌∷◌, ◌++◌, length, take, drop, Option, Some, None, Result, Ok, Err, refl, sym, ◌∙◌, ap, subst, append_assoc, append-nil, drop_at, take_all, arith}
 use Rattle.std.proofs.lemmas.Bool.Decides.{nat_tests}
 use Rattle.std.proofs.lemmas.List.{drop_all}
 use Rattle.venue_words.specs.declared.config.Config.{Config}
@@ -25,7 +25,7 @@ use Rattle.session_core.specs.declared.state.Phase.TheVariants.{New}
 use Rattle.session_core.specs.declared.state.State.{State}
 use Rattle.session_core.specs.Answers.{drops, logs_out, drops_wrong_name}
 use Rattle.session_core.specs.Cases.{on_message}
-use Rattle.session_core.specs.Content.{content_of}
+use Rattle.fix_fields.specs.Content.{content_of}
 use Rattle.session_core.specs.Logon.{is_bad_logon, next_of_logon, on_logon, before_logon, takes_logon}
 use Rattle.session_core.specs.Lookup.{is_value, kind_of, message_number}
 use Rattle.session_core.specs.Machine.{Machine, on_frame, on_fields, plan_for, carried_out, incoming, fresh}
@@ -55,7 +55,7 @@ behind_frame frame = record { passed = length frame; kept = []; held = 0 }
 given : (frame : List ℕ) → IsFrame frame → length frame ≤ MAX_FRAME_BYTES → HasGiven (before_frame frame) (behind_frame frame) frame
 given frame is fits =
     let here = place_at-frame frame is fits in
-    let long = place_at-large frame (length frame) here in
+    let long = place_at-large frame (length frame) (14 + length is.digits) here in
     let all : take (length frame) frame ≡ frame = take_all (length frame) frame (omega arith) in (
       0,
       record {
@@ -64,7 +64,7 @@ given frame is fits =
         inside = omega arith;
         held = refl;
       },
-      λ more. next_from-whole frame more 0 (length frame) (skips_none frame) (omega (arith, long), here) ∙ ap (gives 0) all,
+      λ more. next_from-whole frame more 0 (length frame) (14 + length is.digits) (skips_none frame) (omega (arith, long), here) ∙ ap (gives 0) all,
     )
 
 frame_first : (frame more : List ℕ) → IsFrame frame → length frame ≤ MAX_FRAME_BYTES

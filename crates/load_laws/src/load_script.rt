@@ -2,7 +2,7 @@
 ghost use Rattle.load_laws.specs.LoadScript.{HeaderIsRead, MessagesAreFrames, QuotesAreRead};
 
 /// The first five lines of the load script are a whole header. It says the member A, the market M, the symbol L with a limit that
-/// leaves room for all orders and quotes, and the moment at which the script begins.
+/// leaves room for all orders and quotes, of which there are at most 999,998, and the moment at which the script begins.
 // Rules out a header line that is refused, one that is wanted still, and a config with another name or limit.
 pub fn header_is_read()
     ensures { HeaderIsRead }

@@ -1,6 +1,6 @@
 -- The entries of a snapshot, one after the other.
-use Rattle.std.proofs.Common.{◌≡◌, ℕ, zero, suc, ◌+◌, ◌-◌, subst, length-drop, ◌<◌, ◌≤◌, Bool, true, false, cond, nat_lt, List, [], ◌∷◌, ◌++◌, length, take, drop, Option, Some, None, position, ℤ, pos, negsuc, ◌/◌, ◌%◌, ◌==◌, refl, sym, ◌∙◌, ap, arith, append_assoc, map}
-use Rattle.std.specs.List.{position_or_len, before_first, filter_map}
+use Rattle.std.proofs.Common.{◌≡◌, ℕ, suc, ◌+◌, ◌-◌, subst, length-drop, ◌<◌, ◌≤◌, Bool, true, false, cond, nat_lt, List, [], ◌∷◌, length, take, drop, Some, None, position, ℤ, pos, negsuc, ◌/◌, ◌%◌, ◌==◌, refl, sym, ◌∙◌, ap, arith}
+use Rattle.std.specs.List.{position_or_len}
 use Rattle.std.proofs.lemmas.Bool.Decides.{nat_tests}
 use Rattle.std.proofs.lemmas.List.{take_all}
 use lib.IntN.{nat_abs}
@@ -8,12 +8,7 @@ use Rattle.std.specs.Int.Signed.{lt_z}
 use Rattle.venue_words.specs.declared.limits.TheConstants.{MAX_CENTS}
 use Rattle.quote_intake.specs.Price.{in_range}
 use Rattle.fix_fields.specs.declared.field.Field.{Field}
-use Rattle.session_core.specs.declared.checks.FailedCheck.{FailedCheck}
-use Rattle.market_data.specs.declared.entries.EntryQuote.{EntryQuote}
-use Rattle.market_data.specs.Entries.{begins_entry, entry_of, entries_of, used_quote, used_quotes, whole_cents, cents_of_amount}
-use Rattle.market_data.specs.Faults.{first_some, entry_fault, entries_fault}
-use Rattle.market_data.specs.Quotes.{is_named, with_named, first_named}
-use Rattle.market_data.specs.Snapshots.{PassesFirst}
+use Rattle.market_data.specs.Entries.{begins_entry, entry_of, entries_of, whole_cents, cents_of_amount}
 
 found : (n m at : ℕ) → cond (nat_lt n m) (Some n) None ≡ Some at → n ≡ at
 found n m at e = grind (arith, nat_tests)

@@ -1,5 +1,5 @@
 -- How a market data session goes on, frame by frame and piece by piece.
-use Rattle.std.proofs.Common.{◌≡◌, ℕ, ℤ, Bool, true, false, cond, List, [], ◌∷◌, ◌++◌, Option, Some, None, Result, Ok, Err, refl, sym, ◌∙◌, ap, subst, rules, append_assoc, append-nil}
+use Rattle.std.proofs.Common.{◌≡◌, ℕ, ℤ, true, List, [], ◌++◌, Option, Some, None, Result, Ok, Err, refl, sym, ◌∙◌, ap, subst, rules, append_assoc, append-nil}
 use Rattle.std.specs.Option.{option_to_list}
 use Rattle.std.specs.Prelude.{IsSome, IfOk}
 use Rattle.venue_words.specs.declared.config.Config.{Config}
@@ -15,7 +15,7 @@ use Rattle.session_core.specs.declared.state.State.{State}
 use Rattle.session_core.specs.declared.turn.Turn.{Turn}
 use Rattle.session_core.specs.Alike.{AreAlike}
 use Rattle.session_core.specs.AlikeLaws.{alike-self, sends-alike, rejects-alike}
-use Rattle.session_core.specs.Machine.{Machine, Outcome, IsOver, fresh, on_frame, on_overlong}
+use Rattle.session_core.specs.Machine.{Machine, IsOver, fresh, on_frame, on_overlong}
 use Rattle.session_core.specs.State.{cause_of, is_over}
 use Rattle.session_stream.specs.AnsweringLaws.{takes_frame, waits, exceeds}
 use Rattle.session_stream.specs.Hearing.{IsUnderway, TakesFrame, Exceeds, Waits}
@@ -23,7 +23,7 @@ use Rattle.session_stream.specs.Laws.{OnlySends, HandOutAlike}
 use Rattle.session_stream.specs.Work.{Work, then_work, work_of_reading}
 use Rattle.session_stream.specs.WorkLaws.{work_of_turn, underway_fed, underway_more, underway_none, underway_reads, underway_waits, underway_whole, underway_settled, underway_over, underway_over_more, underway_long, underway_long_more, frame_cause, overlong_cause, reading_work-alike}
 use Rattle.market_data.specs.Feeding.{Feeding, feeding_of, unfed, no_answer, HasTaken, IsFed, StandsFor, Adds}
-use Rattle.market_data.specs.Lines.{TimedQuote, handed_quotes, all_quotes, lines_from, last_moment, feed_lines}
+use Rattle.market_data.specs.Lines.{handed_quotes, all_quotes, lines_from, last_moment, feed_lines}
 use Rattle.market_data.specs.Market.{Market, answer_snapshot, answer_by_type, market_answer, market_by, market_of}
 use Rattle.market_data.specs.Snapshots.{Meant}
 use Rattle.market_data.proofs.LineSteps.{lines_more, last_more, lines_all}

@@ -1,5 +1,5 @@
 -- An input in the middle of its bytes, and how it ends.
-use Rattle.std.proofs.Common.{◌≡◌, ◌⊎◌, ℕ, ◌+◌, ◌-◌, ◌<◌, ◌≤◌, Bool, true, false, cond, nat_lt, List, [], ◌∷◌, ◌++◌, length, take, drop, Option, Some, None, IfSome, MatchOption, refl, sym, ◌∙◌, ap, subst, arith, append_assoc, append-nil, length-append, length-take, min, inl, inr}
+use Rattle.std.proofs.Common.{◌≡◌, ℕ, ◌+◌, ◌-◌, ◌<◌, ◌≤◌, Bool, true, false, nat_lt, List, [], ◌++◌, length, take, Option, Some, None, IfSome, MatchOption, refl, sym, ◌∙◌, ap, subst, arith, append_assoc, append-nil, length-append, length-take, min, inl, inr}
 use Rattle.std.proofs.KnownBytes.{Consumes-nil, Consumes-trans, Consumes-kept}
 use Rattle.std.proofs.Math.Seq.{take-append_seam, take-append-add}
 use Rattle.std.proofs.lemmas.Bool.{cases_lt}
@@ -12,10 +12,10 @@ use Rattle.session_core.specs.declared.state.EndCause.TheVariants.{Logout, TooLo
 use Rattle.venue_words.specs.declared.config.Config.{Config}
 use Rattle.market_data.specs.declared.input.TheConstants.{MAX_INPUT_BYTES}
 use Rattle.market_data.specs.declared.status.MarketStatus.{MarketStatus}
-use Rattle.market_data.specs.declared.status.MarketStatus.TheVariants.{Done, BadWords, BadConfig, LimitConfig, LimitBytes, Ended, ReadFault, WriteFault, NoMemory}
+use Rattle.market_data.specs.declared.status.MarketStatus.TheVariants.{Done, LimitBytes, ReadFault, NoMemory}
 use Rattle.market_data.specs.Feeding.{Feeding, unfed, StandsFor, Adds}
 use Rattle.market_data.specs.Market.{Market, market_of}
-use Rattle.market_data.specs.Outcomes.{within, lines_of, status_by, status_of, Whole, Gave, GaveUp, Stopped, Ran, IsStop, StopsIn}
+use Rattle.market_data.specs.Outcomes.{within, lines_of, status_by, Whole, Gave, Stopped, Ran, IsStop, StopsIn}
 use Rattle.market_data.specs.Statuses.{ended_by}
 use Rattle.market_data.proofs.FeedingSteps.{stands_unfed, stands_cause, lines_none}
 

@@ -1,13 +1,12 @@
 -- What the words, the config and the input make of a run.
-use Rattle.std.proofs.Common.{◌≡◌, ◌⊎◌, ℕ, List, Option, Some, None, Result, Ok, Err, IfSome, rules, refl, sym, ◌∙◌, ap, subst, inl, inr}
+use Rattle.std.proofs.Common.{◌≡◌, ◌⊎◌, ℕ, List, Option, Some, None, Result, Ok, Err, IfSome, rules, refl, sym, subst, inl, inr}
 use Rattle.std.specs.Prelude.{IsNone, IsSome}
 use Rattle.io_edge.specs.Files.{Files, file_named, Opens}
 use Rattle.venue_words.specs.declared.config.Config.{Config}
 use Rattle.venue_words.specs.declared.limits.TheConstants.{MAX_CONFIG_BYTES}
 use Rattle.program_words.specs.declared.WordFault.{WordFault}
 use Rattle.program_words.specs.declared.WordFault.TheVariants as word
-use Rattle.script_text.specs.declared.fault.LineFault.{LineFault}
-use Rattle.line_reader.specs.ConfigFile.{Answer, config_file, fault_of, IsMeant, MeetsConfig}
+use Rattle.line_reader.specs.ConfigFile.{Answer, config_file, IsMeant, MeetsConfig}
 use Rattle.line_reader.specs.declared.config_file.ConfigFile.{ConfigFile}
 use Rattle.line_reader.specs.declared.config_file.ConfigFault.{ConfigFault}
 use Rattle.line_reader.specs.declared.config_file.ConfigFault.TheVariants.{Bad, Limit, ReadFault, NoMemory}

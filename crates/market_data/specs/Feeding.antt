@@ -8,7 +8,7 @@ use Rattle.session_core.specs.Machine.{Machine, Outcome, fresh, rests}
 use Rattle.session_core.specs.State.{cause_of}
 use Rattle.session_stream.specs.Hearing.{IsUnderway}
 use Rattle.session_stream.specs.Work.{Work}
-use Rattle.market_data.specs.Lines.{TimedQuote, all_quotes, last_moment, feed_lines}
+use Rattle.market_data.specs.Lines.{all_quotes, last_moment, feed_lines}
 use Rattle.market_data.specs.Market.{market_of}
 
 -- a feed that is written: the session, the bytes that are unread, and the moment that stands last

@@ -1,5 +1,5 @@
 -- What the recorded bytes of a market data session say: the lines of its feed, and how it ended.
-use Rattle.std.specs.Prelude.{ℕ, ℤ, List, Option, Result, Ok, Err}
+use Rattle.std.specs.Prelude.{ℕ, ℤ, List, Option, Ok, Err}
 use Rattle.venue_words.specs.declared.config.Config.{Config}
 use Rattle.fix_frames.specs.Reading.{reading_of}
 use Rattle.fix_write.specs.declared.message_type.MessageType.{MessageType}

@@ -1,5 +1,5 @@
 -- The quotes of a snapshot: one for each market that it names.
-use Rattle.std.specs.Prelude.{ℕ, ◌==◌, Bool, false, ◌||◌, if◌then◌else◌, List, [], ◌∷◌, ◌++◌, map, filter, Option}
+use Rattle.std.specs.Prelude.{ℕ, ◌==◌, Bool, if◌then◌else◌, List, [], ◌∷◌, ◌++◌, map, filter, Option}
 use Rattle.std.specs.List.{list_any}
 use Rattle.venue_words.specs.declared.command.Command.{Command}
 use Rattle.venue_words.specs.declared.command.Command.TheVariants.{Quote}

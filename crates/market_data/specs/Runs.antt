@@ -1,5 +1,5 @@
 -- What a run comes to, by its words and the files of its shelf.
-use Rattle.std.specs.Prelude.{◌≡◌, ◌⊎◌, ℕ, List, Option, Some, None, Result, Ok, Err, IfSome}
+use Rattle.std.specs.Prelude.{◌≡◌, ◌⊎◌, ℕ, List, Option, Some, None, Ok, Err, IfSome}
 use Rattle.io_edge.specs.Files.{Files, file_named}
 use Rattle.venue_words.specs.declared.config.Config.{Config}
 use Rattle.venue_words.specs.declared.limits.TheConstants.{MAX_CONFIG_BYTES}

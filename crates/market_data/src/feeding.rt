@@ -7,14 +7,13 @@ ghost use Rattle.market_data.specs.Feeding.{feeding_of, IsFed, StandsFor, Adds};
 
 use crate::lines::push_snapshot;
 use crate::snapshots::{SnapshotRefusal, read_snapshot};
-use fix_fields::moment;
+use fix_fields::{Frame, moment};
 use fix_frames::{Framer, Next};
 use fix_write::MessageType;
 use session_core::tags::SENDING_TIME;
 use session_core::{EndCause, Request, Session, Turn};
 use std::alloc::Global;
 use std::marker::Model;
-use venue_words::limits::MAX_FRAME_BYTES;
 use venue_words::{Bytes, Config, NoMemory};
 
 /// The moment of a message: its SendingTime(52), in milliseconds since 1970-01-01 00:00 UTC.
@@ -80,19 +79,18 @@ fn push_handed(
 fn work_frame(
     alloc: Global,
     session: &mut Session,
-    frame: &[u8],
+    frame: Frame<'_>,
     last: &mut Option<i64>,
     config: &Config,
     text: &mut Vec<u8>,
 ) -> Result<Option<EndCause>, NoMemory>
     requires config { IsConfig config.now }
-    requires short { length frame.now ≤ MAX_FRAME_BYTES }
-    ensures session { OnOk result (session.new ≡ (on_frame session.old frame.now config.now.begin).machine) }
+    ensures session { OnOk result (session.new ≡ (on_frame session.old frame.entry.bytes.now config.now.begin).machine) }
     ensures lines { OnOk result (text.new.items ≡ text.old.items ++ lines_from config.now last.old
-        (handed_quotes config.now (on_frame session.old frame.now config.now.begin).turn.request)) }
+        (handed_quotes config.now (on_frame session.old frame.entry.bytes.now config.now.begin).turn.request)) }
     ensures last { OnOk result (last.new ≡ last_moment last.old
-        (handed_quotes config.now (on_frame session.old frame.now config.now.begin).turn.request)) }
-    ensures ended { IfOk result (λ ended. ended ≡ (on_frame session.old frame.now config.now.begin).turn.ended) }
+        (handed_quotes config.now (on_frame session.old frame.entry.bytes.now config.now.begin).turn.request)) }
+    ensures ended { IfOk result (λ ended. ended ≡ (on_frame session.old frame.entry.bytes.now config.now.begin).turn.ended) }
 {
     let Turn { request, ended, .. } = session.take(frame, config.begin)?;
     push_handed(alloc, text, last, config, request)?;

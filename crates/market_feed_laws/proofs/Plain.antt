@@ -1,7 +1,7 @@
 -- Texts without a blank and without an end of line.
-use Rattle.std.proofs.Common.{◌≡◌, ℕ, zero, suc, ◌+◌, ◌-◌, ◌*◌, ◌/◌, ◌%◌, ◌≤◌, ◌<◌, ◌^◌, ◌==◌, ◌||◌, ◌&&◌, nat_le, Bool, true, false, ℤ, List, [], ◌∷◌, ◌++◌, length, get_or, Option, Some, None, decimal, refl, sym, ◌∙◌, ap, subst, arith, rules}
+use Rattle.std.proofs.Common.{◌≡◌, ℕ, ◌+◌, ◌-◌, ◌*◌, ◌/◌, ◌%◌, ◌≤◌, ◌<◌, ◌^◌, ◌==◌, ◌&&◌, nat_le, true, false, ℤ, List, [], ◌∷◌, ◌++◌, length, Option, Some, None, decimal, refl, arith, rules}
 use Rattle.std.specs.List.{All, AllByRecursion, list_all, fold}
-use Rattle.std.specs.Prelude.{codes, slice_index, nat_lt}
+use Rattle.std.specs.Prelude.{slice_index, nat_lt}
 use Rattle.std.proofs.lemmas.Bool.{and_parts}
 use Rattle.std.proofs.lemmas.Bool.Decides.{nat_tests}
 use Rattle.std.proofs.lemmas.Fmt.{digits_decimal}
@@ -11,7 +11,7 @@ use Rattle.venue_words.specs.declared.limits.TheConstants.{MAX_NAME_BYTES}
 use Rattle.venue_words.specs.ListLaws.{all_append}
 use Rattle.fix_write.specs.Digits.{digit, two_digits, three_digits, four_digits}
 use Rattle.fix_write.specs.Moments.{civil_of, date_text, clock_text, milliseconds_of, moment_text}
-use Rattle.quote_intake.specs.Price.{is_digit, number_of}
+use Rattle.quote_intake.specs.Price.{is_digit}
 use Rattle.quote_text.specs.Sides.{cents_text, side_text}
 use Rattle.script_text.specs.Lines.{has_end}
 use Rattle.script_text.specs.Words.{is_letter, is_name_byte, is_name}

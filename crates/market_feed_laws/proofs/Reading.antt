@@ -1,5 +1,5 @@
 -- The lines of quotes are read one after the other.
-use Rattle.std.proofs.Common.{◌≡◌, ℕ, zero, suc, ◌+◌, ◌/◌, ◌%◌, ◌≤◌, ◌<◌, ◌^◌, ◌==◌, Bool, true, false, ℤ, ◌≤ℤ◌, List, [], ◌∷◌, ◌++◌, map, length, length-append, cond, Option, Some, None, Result, Ok, Err, decimal, refl, sym, ◌∙◌, ap, subst, arith, append_assoc, append-nil, slice_get, unwrap_or}
+use Rattle.std.proofs.Common.{◌≡◌, ℕ, zero, suc, ◌+◌, ◌/◌, ◌%◌, ◌≤◌, ◌<◌, true, false, ℤ, ◌≤ℤ◌, List, [], ◌∷◌, ◌++◌, length, length-append, cond, Option, Some, None, Result, Ok, decimal, refl, sym, ◌∙◌, ap, arith, append_assoc, slice_get}
 use Rattle.std.specs.Prelude.{codes}
 use Rattle.std.specs.List.{AllByRecursion}
 use Rattle.std.specs.Ordering.{int_eq}
@@ -9,12 +9,11 @@ use Rattle.std.proofs.lemmas.Int.{ints}
 use Rattle.venue_words.specs.declared.command.Command.{Command}
 use Rattle.venue_words.specs.declared.command.Command.TheVariants.{Quote}
 use Rattle.venue_words.specs.declared.config.Config.{Config}
-use Rattle.venue_words.specs.declared.limits.TheConstants.{MAX_CENTS, MAX_LINE_BYTES, MAX_NAME_BYTES}
+use Rattle.venue_words.specs.declared.limits.TheConstants.{MAX_CENTS, MAX_LINE_BYTES}
 use Rattle.venue_words.specs.Conditions.{IsConfig, fits_quote}
 use Rattle.fix_fields.specs.declared.moments.TheConstants.{FIRST_MOMENT, LAST_MOMENT}
 use Rattle.fix_write.specs.Moments.{moment_text}
 use Rattle.member_gate.specs.Answering.{Submission, name_at}
-use Rattle.quote_intake.specs.Price.{price_of}
 use Rattle.quote_text.specs.Sides.{cents_text, side_text}
 use Rattle.quote_text.proofs.Written.{written_side}
 use Rattle.script_text.specs.declared.body.Line.TheVariants as line
@@ -27,7 +26,7 @@ use Rattle.script_text.specs.Words.{is_name}
 use Rattle.line_work.specs.Commands.{and_then, submitted_by}
 use Rattle.line_work.specs.FeedState.{FeedState}
 use Rattle.line_work.specs.LineWork.{work_of_moment, work_of_read, work_of_text}
-use Rattle.market_data.specs.Lines.{TimedQuote, moment_line, moment_if, quote_line, lines_from}
+use Rattle.market_data.specs.Lines.{TimedQuote, moment_line, quote_line, lines_from}
 use Rattle.market_feed_laws.specs.ReadBack.{HasNames, as_commands}
 use Rattle.market_feed_laws.proofs.Plain.{ArePlain, no_end, plain_moment, plain_name, plain_side, name_length}
 use Rattle.market_feed_laws.proofs.Written.{quote_words, moment_read, quote_read, found_name}

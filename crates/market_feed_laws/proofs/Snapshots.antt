@@ -1,7 +1,7 @@
 -- The quotes of snapshots that are taken are of configured things, within the limits.
-use Rattle.std.proofs.Common.{◌≡◌, ℕ, zero, suc, ◌+◌, ◌/◌, ◌%◌, ◌<◌, ◌≤◌, ◌==◌, ◌&&◌, max, min, Bool, true, false, not, nat_le, nat_lt, cond, ℤ, pos, negsuc, List, [], ◌∷◌, ◌++◌, map, filter, length, Option, Some, None, Result, Ok, Err, is_none, slice_get, unwrap_or, refl, sym, ◌∙◌, ap, subst, arith}
-use Rattle.std.specs.Prelude.{fold, position, option_and_then, option_map}
-use Rattle.std.specs.List.{AllByRecursion, cons_option, filter_map, flat_map, position_or_len}
+use Rattle.std.proofs.Common.{◌≡◌, ℕ, zero, suc, ◌+◌, ◌/◌, ◌%◌, ◌<◌, ◌==◌, ◌&&◌, max, min, Bool, true, false, not, nat_le, nat_lt, cond, ℤ, pos, negsuc, List, [], ◌∷◌, ◌++◌, map, filter, length, Option, Some, None, Ok, Err, is_none, slice_get, unwrap_or, refl, sym, subst, arith}
+use Rattle.std.specs.Prelude.{fold, option_and_then, option_map}
+use Rattle.std.specs.List.{AllByRecursion, cons_option, flat_map, position_or_len}
 use Rattle.std.specs.Str.{bytes_eq}
 use Rattle.std.proofs.lemmas.Bool.Decides.{nat_tests}
 use Rattle.venue_words.specs.ListLaws.{all_append}
@@ -27,9 +27,9 @@ use Rattle.fix_write.specs.declared.message_type.MessageType.{MessageType}
 use Rattle.fix_write.specs.declared.message_type.MessageType.TheVariants.{MarketDataSnapshot}
 use Rattle.market_data.specs.declared.snapshots.Snapshot.{Snapshot}
 use Rattle.market_data.specs.declared.tags.TheConstants.{MD_ENTRY_PX, MD_MKT}
-use Rattle.market_data.specs.Entries.{cents_of_amount, entries_of, entry_quote, entry_type, market_in, market_or_first, price_in, used_quote, used_quotes, whole_cents}
+use Rattle.market_data.specs.Entries.{cents_of_amount, entries_of, entry_quote, entry_type, market_in, market_or_first, price_in, used_quotes, whole_cents}
 use Rattle.market_data.specs.Faults.{entry_fault, entry_faults, fails_if, fault_of_type, first_some, head_faults, snapshot_fault, symbol_in}
-use Rattle.market_data.specs.Lines.{TimedQuote, all_quotes, quotes_by_type, quotes_in, sending_time, timed, timed_if}
+use Rattle.market_data.specs.Lines.{all_quotes, quotes_by_type, quotes_in, sending_time, timed, timed_if}
 use Rattle.market_data.specs.Quotes.{bids_of, first_named, is_named, market_quote, markets_in, offers_of, quotes_of, said_of}
 use Rattle.market_data.specs.Snapshots.{Meant, snapshot_of, unless_fault, whole_snapshot}
 use Rattle.market_feed_laws.proofs.Reading.{IsWritable}

@@ -1,8 +1,7 @@
 -- A run in which nothing failed ends as the input's bytes say.
-use Rattle.std.proofs.Common.{◌≡◌, ◌⊎◌, inl, inr, ℕ, List, Bool, Option, Some, None, Result, Ok, Err, IfSome, refl, sym, ◌∙◌, ap, subst}
+use Rattle.std.proofs.Common.{◌≡◌, ◌⊎◌, inl, inr, ℕ, List, Option, Some, None, Ok, Err, IfSome, refl, ◌∙◌, ap, subst}
 use Rattle.io_edge.specs.Files.{Files, file_named}
 use Rattle.line_reader.specs.ConfigFile.{Answer, config_file}
-use Rattle.line_reader.specs.Endings.{Told, after_failure}
 use Rattle.venue_words.specs.Causes.{Rose}
 use Rattle.venue_words.specs.declared.config.Config.{Config}
 use Rattle.venue_words.specs.declared.limits.TheConstants.{MAX_CONFIG_BYTES}

@@ -1,8 +1,7 @@
 -- A line that is written is read as what it was written for.
-use Rattle.std.proofs.Common.{◌≡◌, ℕ, zero, suc, ◌+◌, ◌-◌, ◌≤◌, ◌<◌, ◌^◌, ◌==◌, Bool, true, false, not, nat_lt, ℤ, ◌≤ℤ◌, List, [], ◌∷◌, ◌++◌, length, length-append, cond, Option, Some, None, Result, Ok, Err, decimal, refl, sym, ◌∙◌, ap, subst, arith, append_assoc, slice_get, unwrap_or}
-use Rattle.std.specs.Prelude.{codes, position}
+use Rattle.std.proofs.Common.{◌≡◌, ℕ, zero, suc, ◌+◌, ◌-◌, ◌≤◌, ◌==◌, Bool, true, false, not, nat_lt, ℤ, ◌≤ℤ◌, List, [], ◌∷◌, ◌++◌, length, length-append, cond, Option, Some, None, Ok, refl, sym, ◌∙◌, ap, subst, arith, append_assoc, slice_get}
+use Rattle.std.specs.Prelude.{codes}
 use Rattle.std.specs.List.{AllByRecursion, IsDistinct, position_or_len}
-use Rattle.std.specs.Option.{option_map}
 use Rattle.std.specs.Str.{bytes_eq}
 use Rattle.std.proofs.lemmas.Bool.Decides.{nat_tests}
 use Rattle.std.proofs.lemmas.List.Splits.{slice_split_none, slice_split_at}
@@ -10,17 +9,15 @@ use Rattle.std.proofs.lemmas.Slice.Eq.{bytes_eq-Decides}
 use Rattle.venue_words.specs.declared.command.Command.TheVariants.{Quote}
 use Rattle.venue_words.specs.declared.config.Config.{Config}
 use Rattle.venue_words.specs.declared.limits.TheConstants.{MAX_LINE_BYTES}
-use Rattle.fix_fields.specs.Forms.{moment_of}
 use Rattle.fix_fields.specs.declared.moments.TheConstants.{FIRST_MOMENT, LAST_MOMENT}
 use Rattle.fix_frames.specs.MomentLaws.{moment_of-inside}
 use Rattle.fix_write.specs.Lengths.{length-moment_text}
 use Rattle.fix_write.specs.Moments.{moment_text}
 use Rattle.quote_intake.specs.Price.{price_of}
-use Rattle.quote_intake.specs.Quote.{number_in, quote_in, quote_from}
+use Rattle.quote_intake.specs.Quote.{number_in, quote_in}
 use Rattle.quote_intake.specs.Words.{words_of}
-use Rattle.quote_text.specs.Sides.{side_text}
 use Rattle.script_text.specs.declared.body.Line.TheVariants as line
-use Rattle.script_text.specs.Body.{Read, line_of, keyed_body, body_words, moment_line, quote_line, at_line, read_of}
+use Rattle.script_text.specs.Body.{line_of, keyed_body, body_words, moment_line, quote_line, read_of}
 use Rattle.script_text.specs.Words.{script_moment, behind_word}
 use Rattle.market_feed_laws.proofs.Plain.{ArePlain, no_blank, plain_moment}
 

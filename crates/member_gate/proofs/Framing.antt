@@ -1,28 +1,12 @@
--- What the framer's answers say, and how the replies of a frame are added.
-use Rattle.std.proofs.Common.{◌≡◌, ℕ, ◌+◌, ◌<◌, ◌≤◌, ℤ, List, [], ◌∷◌, ◌++◌, length, drop, inr, Some, sym, ◌∙◌, ap, arith, append_assoc, length-drop}
+-- How the replies of a frame are added.
+use Rattle.std.proofs.Common.{◌≡◌, ℕ, ◌+◌, ℤ, List, [], ◌∷◌, ◌++◌, inr, Some, sym, ◌∙◌, ap, append_assoc}
 use Rattle.std.specs.Option.{option_to_list}
-use Rattle.venue_words.specs.declared.limits.TheConstants.{MAX_FRAME_BYTES}
-use Rattle.fix_frames.specs.FoundLaws.{whole_found}
-use Rattle.fix_frames.specs.ReadingLaws.{lies_in}
-use Rattle.fix_frames.specs.Streams.{Stream, HasGiven}
 use Rattle.venue_words.specs.declared.config.Config.{Config}
 use Rattle.session_core.specs.declared.message.Request.{Request}
 use Rattle.session_core.specs.declared.turn.Turn.{Turn}
 use Rattle.session_core.specs.Machine.{Machine, Outcome, on_frame, given_up}
 use Rattle.member_gate.specs.Answering.{Work, answer}
 use Rattle.member_gate.specs.Working.{handed_out, work_of_frame, GaveUp}
-
--- a frame that was given is not too long
-pub given_short : (old new : Stream) (frame : List ℕ) → HasGiven old new frame → length frame ≤ MAX_FRAME_BYTES
-given_short old new frame h =
-    let l = lies_in (old.kept ++ []) h.0 frame (h.2 []) in
-    (whole_found (drop h.0 (old.kept ++ [])) (length frame) l.whole).1
-
--- and leaves fewer bytes
-pub given_shorter : (old new : Stream) (frame : List ℕ) → HasGiven old new frame → length new.kept < length old.kept
-given_shorter old new frame h =
-    let l = lies_in (old.kept ++ []) h.0 frame (h.2 []) in
-    omega (arith, l.some, h.1.inside, ap length h.1.kept, length-drop (h.0 + length frame) old.kept)
 
 -- the turn's replies and the answer are those of the frame
 pub reply_added : (config : Config) (member : ℕ) (moment read : ℤ) (session next : Machine) (frame : List ℕ) (turn : Turn) (request : Request) (reply : List ℕ) (sent own all more : List (List ℕ))

@@ -11,6 +11,7 @@ use crate::answering::answer;
 use crate::origin::Origin;
 use crate::refusal::DeskRefusal;
 use crate::worked::Worked;
+use fix_fields::Frame;
 use fix_frames::{Framer, Next};
 use session_core::Session;
 use std::sync::ledger::Ledger;
@@ -23,29 +24,28 @@ fn work_frame<F: Floor, L: Ledger>(
     session: &mut Session,
     floor: &mut F,
     origin: Origin<'_>,
-    frame: &[u8],
+    frame: Frame<'_>,
     worked: &mut Worked,
     steps: &mut Steps<L>,
 ) -> Result<(), DeskRefusal>
-    requires frame { length frame.now ≤ MAX_FRAME_BYTES }
     requires config { IsConfig origin.config.now }
     requires setup { IsSetUpFor origin.config.now (F.mark floor.old).setup }
     requires member { origin.member < length origin.config.now.members }
     ensures session { OnOk result (session.new
-        ≡ (work_of_frame origin.entry.config.now origin.entry.member origin.entry.moment session.old frame.now).session) }
+        ≡ (work_of_frame origin.entry.config.now origin.entry.member origin.entry.moment session.old frame.entry.bytes.now).session) }
     ensures replies { OnOk result (worked.new.replies.items ≡ worked.old.replies.items
-        ++ (work_of_frame origin.entry.config.now origin.entry.member origin.entry.moment session.old frame.now).replies) }
+        ++ (work_of_frame origin.entry.config.now origin.entry.member origin.entry.moment session.old frame.entry.bytes.now).replies) }
     ensures mark { F.mark floor.new ≡ F.mark floor.old }
     ensures took { OnOk result (TookAll F.at F.step_limit (F.mark floor.old) origin.entry.feed origin.entry.moment
-        (work_of_frame origin.entry.config.now origin.entry.member origin.entry.moment session.old frame.now).submissions
+        (work_of_frame origin.entry.config.now origin.entry.member origin.entry.moment session.old frame.entry.bytes.now).submissions
         (floor.old, steps.old) (floor.new, steps.new)) }
     ensures count { OnOk result (worked.new.submitted ≡ worked.old.submitted + length (work_of_frame origin.entry.config.now
-        origin.entry.member origin.entry.moment session.old frame.now).submissions) }
-    ensures gave_up { OnErr result (GaveUp origin.entry.moment session.old (frame.now ∷ []) (given_up session.new)) }
+        origin.entry.member origin.entry.moment session.old frame.entry.bytes.now).submissions) }
+    ensures gave_up { OnErr result (GaveUp origin.entry.moment session.old (frame.entry.bytes.now ∷ []) (given_up session.new)) }
     ensures uncounted { OnErr result (worked.new.submitted ≡ worked.old.submitted) }
     ensures none { IfErr result (λ refusal. TookNone F.at F.step_limit (F.mark floor.old)
         origin.entry.feed origin.entry.moment refusal
-        (work_of_frame origin.entry.config.now origin.entry.member origin.entry.moment session.old frame.now).submissions
+        (work_of_frame origin.entry.config.now origin.entry.member origin.entry.moment session.old frame.entry.bytes.now).submissions
         (floor.old, steps.old) (floor.new, steps.new)) }
 {
     let turn = session.take(frame, origin.moment)?;

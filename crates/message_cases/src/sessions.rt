@@ -1,12 +1,11 @@
 //! Sessions of a member, and the stream that it sends.
 use case_text::{Told, Words};
-use fix_fields::moment;
+use fix_fields::{Frame, moment};
 use fix_frames::{Framer, Next};
 use fix_write::{MessageType, wrap};
 use message_laws::work_all;
 use session_core::{Input, Message, Request, Session, Turn};
 use std::alloc::Global;
-use venue_words::limits::MAX_FRAME_BYTES;
 use venue_words::{Bytes, Items, NoMemory};
 
 /// 2024-01-02 14:30:00 UTC, the moment at which all is done.
@@ -43,10 +42,10 @@ impl Desk {
 
     /// What a frame gives.
     pub fn take<'a>(&mut self, frame: &'a [u8]) -> Result<Turn<'a>, NoMemory> {
-        if frame.len() > MAX_FRAME_BYTES {
-            return Err(NoMemory);
+        match Frame::over(frame) {
+            Some(frame) => self.session.take(frame, START),
+            None => Err(NoMemory),
         }
-        self.session.take(frame, START)
     }
 
     fn send(&mut self, input: &[u8], told: &mut Told) -> Result<(), NoMemory> {
@@ -77,7 +76,7 @@ impl Desk {
         self.framer.feed(piece)?;
         for _ in 0..100 {
             match self.framer.next() {
-                Next::Frame(frame) => told.line(frame),
+                Next::Frame(frame) => told.line(frame.as_slice()),
                 Next::Wait => break,
                 Next::TooLong => {
                     told.word("too long");
@@ -93,14 +92,12 @@ impl Desk {
         self.framer.feed(piece)?;
         for _ in 0..100 {
             match self.framer.next() {
-                Next::Frame(frame) if frame.len() <= MAX_FRAME_BYTES => {
-                    tell_turn(&self.session.take(frame, START)?, told);
-                }
+                Next::Frame(frame) => tell_turn(&self.session.take(frame, START)?, told),
+                Next::Wait => break,
                 Next::TooLong => {
                     tell_turn(&self.session.too_long(START)?, told);
                     break;
                 }
-                _ => break,
             }
         }
         Ok(())

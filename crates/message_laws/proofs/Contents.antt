@@ -1,33 +1,20 @@
 -- The content of a frame.
-use Rattle.std.proofs.Common.{◌≡◌, ℕ, ◌-◌, ◌%◌, ◌^◌, ◌<◌, false, eqb, List, [], ◌∷◌, ◌++◌, length, take, drop, Some, inl, refl, ◌∙◌, ap, arith, append_assoc, length-append}
+use Rattle.std.proofs.Common.{◌≡◌, ℕ, ◌-◌, ◌%◌, ◌^◌, ◌<◌, false, List, [], ◌∷◌, ◌++◌, length, take, drop, inl, ◌∙◌, ap, arith, append_assoc, length-append}
 use Rattle.std.specs.Prelude.{codes, decimal, sum}
 use Rattle.std.specs.Fmt.{digits}
-use Rattle.std.specs.Char.{is_ascii_digit}
-use Rattle.std.specs.List.{list_all, list_any}
-use Rattle.std.specs.Str.Parse.{digits_value}
-use Rattle.std.proofs.lemmas.Bool.{or_parts}
+use Rattle.std.specs.List.{list_any}
 use Rattle.std.proofs.lemmas.Fmt.{digits_decimal}
 use Rattle.std.proofs.lemmas.List.{take_at}
 use Rattle.fix_fields.specs.Fields.{is_end}
-use Rattle.fix_fields.specs.Forms.{numeral}
-use Rattle.fix_fields.specs.Marks.{place_found}
 use Rattle.fix_fields.specs.Tags.{no_mark, numerals}
 use Rattle.fix_write.specs.Digits.{three_digits}
 use Rattle.fix_write.specs.Fields.{field}
 use Rattle.fix_write.specs.Framing.{opening, closed, wrapped}
 use Rattle.fix_frames.specs.Frames.{header, check_sum, IsFrame}
 use Rattle.fix_frames.specs.FrameLaws.{length-check_sum}
-use Rattle.session_core.specs.Content.{behind_first_end, content_of}
+use Rattle.fix_frames.specs.FrontLaws.{behind_header, numeral_has_no_end}
+use Rattle.fix_fields.specs.Content.{behind_first_end, content_of}
 use Rattle.message_laws.specs.Contents.{ContentComesBack}
-
--- what stands behind the first end, where none stands before it
-behind_first : (bytes rest : List ℕ) → list_any is_end bytes ≡ false → behind_first_end (bytes ++ 1 ∷ rest) ≡ rest
-unfolding behind_first_end
-behind_first [] rest none = refl
-behind_first (b ∷ bs) rest none =
-    let parts = or_parts (is_end b) (list_any is_end bs) none in
-    let here : eqb b 1 ≡ false = parts.0 in
-    rw here (behind_first bs rest parts.1)
 
 without_trailer : (content trailer : List ℕ) → length trailer ≡ 7 → take (length (content ++ trailer) - 7) (content ++ trailer) ≡ content
 without_trailer content trailer seven =
@@ -37,18 +24,9 @@ without_trailer content trailer seven =
 pub content_between : (digits_of content trailer : List ℕ) → list_any is_end digits_of ≡ false → length trailer ≡ 7 → content_of ((header digits_of ++ content) ++ trailer) ≡ content
 unfolding content_of
 content_between digits_of content trailer none seven =
-    let front = 57 ∷ 61 ∷ digits_of in
-    let moved : drop 11 ((header digits_of ++ content) ++ trailer) ≡ front ++ 1 ∷ (content ++ trailer) =
-    ap (λ (x : List ℕ). drop 11 x) (append_assoc (header digits_of) content trailer)
-    ∙ ap (λ (x : List ℕ). 57 ∷ 61 ∷ x) (append_assoc digits_of (1 ∷ []) (content ++ trailer)) in
-    let none_before : list_any is_end front ≡ false = none in
-    let behind : behind_first_end (drop 11 ((header digits_of ++ content) ++ trailer)) ≡ content ++ trailer = ap behind_first_end moved ∙ behind_first front (content ++ trailer) none_before in
+    let behind : behind_first_end (drop 11 ((header digits_of ++ content) ++ trailer)) ≡ content ++ trailer =
+    ap (λ (x : List ℕ). behind_first_end (drop 11 x)) (append_assoc (header digits_of) content trailer) ∙ behind_header digits_of (content ++ trailer) none in
     rw behind (without_trailer content trailer seven)
-
-numeral_has_no_end : (bytes : List ℕ) (n : ℕ) → numeral bytes ≡ Some n → list_any is_end bytes ≡ false
-unfolding numeral
-numeral_has_no_end bytes n counts =
-    no_mark 1 (inl (omega arith)) bytes (place_found (list_all is_ascii_digit bytes) (digits_value 10 bytes) n counts).0
 
 pub content_of-frame : (frame : List ℕ) (is : IsFrame frame) → content_of frame ≡ is.content
 content_of-frame frame is =

@@ -10,7 +10,7 @@ use Rattle.session_core.specs.declared.state.State.{State}
 use Rattle.session_core.specs.declared.plan.Span.{Span}
 use Rattle.session_core.specs.declared.plan.Plan.{Plan}
 use Rattle.session_core.specs.Lookup.{message_number, kind_of}
-use Rattle.session_core.specs.Content.{content_of}
+use Rattle.fix_fields.specs.Content.{content_of}
 use Rattle.session_core.specs.State.{is_up, heard}
 use Rattle.session_core.specs.Answers.{logs_out, drops, rejects, unless_failed, drops_wrong_name}
 use Rattle.session_core.specs.Resend.{resends, on_resend_request}

@@ -23,7 +23,7 @@ frame_tail frame f = f.bytes
 
 frame_in_front : (frame more : List ℕ) → IsFrame frame → length frame ≤ MAX_FRAME_BYTES → next_from (frame ++ more) ≡ gives 0 frame
 frame_in_front frame more f fits =
-    next_from-whole frame more 0 (length frame) (skips_none frame) (omega (arith, length-frame frame f), place_at-frame frame f fits) ∙ ap (gives 0) (take_all (length frame) frame (omega arith))
+    next_from-whole frame more 0 (length frame) (14 + length f.digits) (skips_none frame) (omega (arith, length-frame frame f), place_at-frame frame f fits) ∙ ap (gives 0) (take_all (length frame) frame (omega arith))
 
 pub frame_behind_garbage : FrameBehindGarbage
 frame_behind_garbage garbage frame more garbled f fits =

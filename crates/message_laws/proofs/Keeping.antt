@@ -11,7 +11,7 @@ use Rattle.session_core.specs.declared.runs.Input.TheVariants.{Connection, Frame
 use Rattle.session_core.specs.declared.state.Phase.{Phase}
 use Rattle.session_core.specs.declared.state.Phase.TheVariants.{New, Up, Ended}
 use Rattle.session_core.specs.Lookup.{message_number, kind_of}
-use Rattle.session_core.specs.Content.{content_of}
+use Rattle.fix_fields.specs.Content.{content_of}
 use Rattle.session_core.specs.State.{is_up, is_up_phase, is_over, heard}
 use Rattle.session_core.specs.Frames.{numbers_of}
 use Rattle.session_core.specs.Machine.{Machine, on_frame, on_fields, on_clock, on_overlong, on_send, on_reject, carried_out, plan_for}

@@ -63,7 +63,7 @@ wrong_place bytes g =
     let small : ltb MAX_FRAME_BYTES size ≡ false = not_below _ _ (omega (arith, g.within)) in
     let whole : ltb (length bytes) size ≡ false = not_below _ _ (omega (arith, g.there)) in
     elim (is_frame (14 + length d.digits) d.content (take size bytes)) as (λ b. (is_frame (14 + length d.digits) d.content (take size bytes) ≡ b) → IsPassed bytes) [
-      | true ↦ λ e. absurd (g.wrong (subst (λ (n : ℕ). IsFrame (take n bytes)) same (whole_found bytes size (declared_place bytes g.size d ∙ rw (some, small, whole, e) refl)).0))
+      | true ↦ λ e. absurd (g.wrong (subst (λ (n : ℕ). IsFrame (take n bytes)) same (whole_found bytes size (14 + length d.digits) (declared_place bytes g.size d ∙ rw (some, small, whole, e) refl)).0))
       | false ↦ λ e. declared_place bytes g.size d ∙ rw (some, small, whole, e) refl
     ] refl
 

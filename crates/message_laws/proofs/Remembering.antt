@@ -16,7 +16,7 @@ use Rattle.session_core.specs.declared.runs.Input.{Input}
 use Rattle.session_core.specs.declared.runs.Input.TheVariants.{Connection, Frame, TooLong, Tick, Send, Reject}
 use Rattle.session_core.specs.declared.turn.Turn.{Turn}
 use Rattle.session_core.specs.Bodies.{reject}
-use Rattle.session_core.specs.Content.{content_of}
+use Rattle.fix_fields.specs.Content.{content_of}
 use Rattle.session_core.specs.Frames.{new_frame, new_frames, all_kept}
 use Rattle.session_core.specs.Lookup.{message_number}
 use Rattle.session_core.specs.Machine.{Machine, Outcome, carried_out, sent_before, sent_now, replies_of, plan_for, on_fields, on_frame, on_clock, on_overlong, on_send, on_reject, fresh, rests, connected}

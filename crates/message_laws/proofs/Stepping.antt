@@ -14,7 +14,7 @@ use Rattle.session_core.specs.declared.runs.Input.{Input}
 use Rattle.session_core.specs.declared.runs.Input.TheVariants.{Connection, Frame, TooLong, Tick, Send, Reject}
 use Rattle.session_core.specs.declared.state.State.{State}
 use Rattle.session_core.specs.declared.turn.Turn.{Turn}
-use Rattle.session_core.specs.Content.{content_of}
+use Rattle.fix_fields.specs.Content.{content_of}
 use Rattle.session_core.specs.Lookup.{is_yes, kind_of, message_number}
 use Rattle.session_core.specs.State.{is_up, is_over, heard}
 use Rattle.session_core.specs.Machine.{Machine, Outcome, carried_out, sent_now, replies_of, request_of, plan_for, on_fields, on_frame, on_clock, on_overlong, on_send, on_reject}

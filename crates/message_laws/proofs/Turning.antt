@@ -21,7 +21,7 @@ use Rattle.fix_write.specs.MessageTypes.{byte_of, is_order}
 use Rattle.session_core.specs.declared.tags.TheConstants.{BEGIN_SEQ_NO, END_SEQ_NO}
 use Rattle.session_core.specs.Answers.{logs_out, rejects, unless_failed}
 use Rattle.session_core.specs.Cases.{on_message}
-use Rattle.session_core.specs.Content.{content_of}
+use Rattle.fix_fields.specs.Content.{content_of}
 use Rattle.session_core.specs.Frames.{new_frame, new_frames}
 use Rattle.session_core.specs.Lookup.{message_number, kind_of, number_or_zero}
 use Rattle.session_core.specs.Machine.{Machine, Outcome, carried_out, replies_of, incoming, plan_for, on_frame}

@@ -8,7 +8,7 @@ use Rattle.fix_write.specs.declared.tags.TheConstants.{MSG_TYPE, SENDER_COMP_ID,
 use Rattle.fix_write.specs.Moments.{moment_text}
 use Rattle.fix_write.specs.Framing.{wrapped, frame_of}
 use Rattle.fix_frames.specs.Frames.{IsFrame}
-use Rattle.session_core.specs.Content.{content_of}
+use Rattle.fix_fields.specs.Content.{content_of}
 
 -- the content of a frame is read as it stands in the frame, and what is wrapped into a frame is its content
 pub record ContentComesBack : Type 0 where

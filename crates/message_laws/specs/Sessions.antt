@@ -12,7 +12,7 @@ use Rattle.session_core.specs.declared.message.Request.{Request}
 use Rattle.session_core.specs.declared.runs.Input.{Input}
 use Rattle.session_core.specs.declared.runs.Input.TheVariants.{Connection, Frame, TooLong, Tick, Send, Reject}
 use Rattle.session_core.specs.declared.turn.Turn.{Turn}
-use Rattle.session_core.specs.Content.{content_of}
+use Rattle.fix_fields.specs.Content.{content_of}
 use Rattle.session_core.specs.Lookup.{kind_of, is_yes}
 use Rattle.session_core.specs.Machine.{Machine}
 use Rattle.session_core.specs.Runs.{Follows}

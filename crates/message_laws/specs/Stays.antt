@@ -11,7 +11,7 @@ use Rattle.session_core.specs.declared.runs.Input.{Input}
 use Rattle.session_core.specs.declared.runs.Input.TheVariants.{Connection, Frame, TooLong, Tick, Send, Reject}
 use Rattle.session_core.specs.declared.turn.Turn.{Turn}
 use Rattle.session_core.specs.Lookup.{message_number, kind_of}
-use Rattle.session_core.specs.Content.{content_of}
+use Rattle.fix_fields.specs.Content.{content_of}
 use Rattle.session_core.specs.Sequence.{in_reset_mode}
 use Rattle.session_core.specs.Machine.{Machine, IsUp, IsOver, rests, on_frame}
 use Rattle.session_core.specs.Runs.{Follows, outcome_of}

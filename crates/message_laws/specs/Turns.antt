@@ -12,7 +12,7 @@ use Rattle.session_core.specs.declared.checks.FailedCheck.{FailedCheck}
 use Rattle.session_core.specs.declared.message.Kept.{Kept}
 use Rattle.session_core.specs.declared.tags.TheConstants.{BEGIN_SEQ_NO, END_SEQ_NO}
 use Rattle.session_core.specs.Bodies.{reject}
-use Rattle.session_core.specs.Content.{content_of}
+use Rattle.fix_fields.specs.Content.{content_of}
 use Rattle.session_core.specs.Frames.{new_frame}
 use Rattle.session_core.specs.Lookup.{message_number, kind_of, is_value, number_or_zero, text_in}
 use Rattle.session_core.specs.Sequence.{in_reset_mode}

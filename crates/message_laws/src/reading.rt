@@ -21,8 +21,8 @@ fn take_frame(alloc: Global, framer: &mut Framer) -> Result<Taken, NoMemory>
     ensures { IfOk result (λ taken. Takes framer.old taken framer.new) }
 {
     match framer.next() {
-        Next::Frame(bytes) => {
-            let frame = Bytes::copy_of(alloc, bytes)?;
+        Next::Frame(frame) => {
+            let frame = Bytes::copy_of(alloc, frame.as_slice())?;
             Ok(Taken::Frame(frame))
         }
         Next::Wait => Ok(Taken::Wait),

@@ -4,6 +4,7 @@ ghost use Rattle.std.specs.List.{AllByRecursion};
 ghost use Rattle.session_core.specs.Machine.{IsUp, rests};
 ghost use Rattle.session_core.specs.Runs.{IsShort, send_if_up, machine_behind, Follows, Answers};
 
+use fix_fields::Frame;
 use session_core::{Input, Message, MessageList, Session, Turn};
 use std::alloc::Global;
 use venue_words::NoMemory;
@@ -63,7 +64,10 @@ pub fn work<'a>(
             session.open();
             Ok(quiet(alloc, session))
         }
-        Input::Frame { frame, moment } => session.take(frame.as_slice(), *moment),
+        Input::Frame { frame, moment } => match Frame::over(frame.as_slice()) {
+            Some(frame) => session.take(frame, *moment),
+            None => unreachable!(),
+        },
         Input::TooLong { moment } => session.too_long(*moment),
         Input::Tick { moment } => session.tick(*moment),
         Input::Send { messages, moment } => {

@@ -67,7 +67,8 @@ pub fn ended_stays()
     ensures { EndedStays }
 {}
 
-/// The number that is to come stays where a frame is garbled and where a message of another number comes.
+/// The number that is to come stays where a frame is garbled and where a message of another number comes, but for a
+/// SequenceReset(35=4) that is no gap fill.
 pub fn number_stays()
     ensures { NumberStays }
 {}

@@ -1,14 +1,13 @@
 //! The stream of a member's connection, message by message.
 use crate::names::message_name;
 use crate::passed::{may_go_on, push_why_passed};
-use fix_fields::fields;
+use fix_fields::{Frame, fields};
 use fix_frames::{Framer, Next};
 use fix_write::digits::push_number;
 use session_core::lookup::{kind_of, text_in};
 use session_core::tags::MSG_SEQ_NUM;
 use session_core::{MessageFields, Session, Turn};
 use std::alloc::Global;
-use venue_words::limits::MAX_FRAME_BYTES;
 use venue_words::{Bytes, NoMemory};
 
 /// Appends a text.
@@ -96,14 +95,11 @@ fn push_message(out: &mut Vec<u8>, fields: &MessageFields<'_>) -> Result<(), NoM
 fn tell_frame(
     alloc: Global,
     session: &mut Session,
-    frame: &[u8],
+    frame: Frame<'_>,
     moment: i64,
     out: &mut Vec<u8>,
 ) -> Result<(), NoMemory> {
-    if frame.len() > MAX_FRAME_BYTES {
-        return Ok(());
-    }
-    match fields(alloc, frame) {
+    match fields(alloc, frame.as_slice()) {
         Ok(fields) => push_message(out, &MessageFields::of(fields))?,
         Err(fault) => {
             push(out, "  a message is passed over, since ")?;
@@ -155,8 +151,9 @@ impl Stream {
     fn take_next(&mut self, moment: i64, out: &mut Vec<u8>) -> Result<bool, NoMemory> {
         match self.framer.next() {
             Next::Frame(frame) => {
-                let place = place_of(frame, &self.unread);
-                let end = place.saturating_add(frame.len()).min(self.unread.len());
+                let bytes = frame.as_slice();
+                let place = place_of(bytes, &self.unread);
+                let end = place.saturating_add(bytes.len()).min(self.unread.len());
                 push_passed(out, self.unread.get(..place).unwrap_or(&[]))?;
                 tell_frame(self.alloc, &mut self.session, frame, moment, out)?;
                 drop(self.unread.drain(..end));

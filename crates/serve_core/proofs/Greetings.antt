@@ -1,29 +1,16 @@
 -- What a stream says of whose it is, frame by frame.
-use Rattle.std.proofs.Common.{◌≡◌, ◌<◌, ◌≤◌, ◌+◌, ℕ, List, [], ◌++◌, Some, None, length, drop, sym, ◌∙◌, ap, subst, append-nil, append_assoc, arith, length-drop}
+use Rattle.std.proofs.Common.{◌≡◌, ◌+◌, ℕ, List, [], ◌++◌, Some, None, sym, ◌∙◌, ap, subst, append-nil, append_assoc}
 use Rattle.std.specs.Prelude.{Result, Ok, Err, IfOk}
-use Rattle.venue_words.specs.declared.limits.TheConstants.{MAX_FRAME_BYTES}
 use Rattle.venue_words.specs.declared.config.Config.{Config}
 use Rattle.fix_fields.specs.Fields.{split}
-use Rattle.fix_frames.specs.FoundLaws.{whole_found}
-use Rattle.fix_frames.specs.ReadingLaws.{lies_in, reading-given, reading-waited, reading-none, reading-exceeded}
+use Rattle.fix_frames.specs.ReadingLaws.{reading-given, reading-waited, reading-none, reading-exceeded}
 use Rattle.fix_frames.specs.Streams.{Stream, HasGiven, HasWaited, HasExceeded}
 use Rattle.fix_frames.specs.declared.reading.Reading.{Reading}
 use Rattle.session_core.specs.declared.state.EndCause.TheVariants as cause
-use Rattle.session_core.specs.Content.{content_of}
+use Rattle.fix_fields.specs.Content.{content_of}
 use Rattle.serve_core.specs.declared.greeting.Greeting.{Greeting}
 use Rattle.serve_core.specs.declared.greeting.Greeting.TheVariants.{Unnamed, Refused}
 use Rattle.serve_core.specs.Greeting.{IsSaidBy, SayTheSame, by_fields, greeted_in, greeting_of}
-
--- a frame that was given is not too long, and leaves fewer bytes
-pub given_short : (old new : Stream) (frame : List ℕ) → HasGiven old new frame → length frame ≤ MAX_FRAME_BYTES
-given_short old new frame h =
-    let l = lies_in (old.kept ++ []) h.0 frame (h.2 []) in
-    (whole_found (drop h.0 (old.kept ++ [])) (length frame) l.whole).1
-
-pub given_shorter : (old new : Stream) (frame : List ℕ) → HasGiven old new frame → length new.kept < length old.kept
-given_shorter old new frame h =
-    let l = lies_in (old.kept ++ []) h.0 frame (h.2 []) in
-    omega (arith, l.some, h.1.inside, ap length h.1.kept, length-drop (h.0 + length frame) old.kept)
 
 abbrev said_in : Config → Reading → Greeting
 said_in config reading = greeted_in config reading.too_long reading.frames

@@ -1,8 +1,7 @@
 -- What a line of quotes is read as, and what becomes of it.
-use Rattle.std.proofs.Common.{◌≡◌, ◌⊎◌, inl, inr, ◌≤◌, ℕ, ℤ, Bool, true, false, cond, List, [], ◌∷◌, length, Option, Some, None, IfSome, IsSome, IfOk, IfErr, Result, Ok, Err, refl, ◌∙◌, ap, subst, arith, nat_lt}
+use Rattle.std.proofs.Common.{◌≡◌, ◌⊎◌, inl, inr, ◌≤◌, ℕ, ℤ, Bool, true, false, cond, List, [], ◌∷◌, length, Option, Some, None, IsSome, IfOk, IfErr, Result, Ok, Err, refl, ◌∙◌, ap, subst, arith, nat_lt}
 use Rattle.std.proofs.lemmas.Bool.Decides.{nat_tests}
 use Rattle.io_edge.specs.Clocks.{GaveMoment}
-use Rattle.io_edge.specs.Files.{Files, Opens, file_named}
 use Rattle.venue_words.specs.Floors.{FloorMark, SymbolView}
 use Rattle.venue_words.specs.declared.command.Command.{Command}
 use Rattle.venue_words.specs.declared.config.Config.{Config}
@@ -14,15 +13,13 @@ use Rattle.script_text.specs.declared.body.Line.{Line}
 use Rattle.script_text.specs.declared.body.Line.TheVariants as line
 use Rattle.script_text.specs.declared.fault.LineFault.{LineFault}
 use Rattle.script_text.specs.declared.fault.LineFault.TheVariants as fault
-use Rattle.script_text.specs.declared.fault.LineCause.TheVariants.{NoEnd}
 use Rattle.line_reader.specs.Over.{over}
 use Rattle.line_work.specs.Refusing.{fault_at}
 use Rattle.link_work.specs.Turns.{GaveMoments}
-use Rattle.serve_core.specs.QuoteFiles.{begins_quote, no_quote, nth_quote, numbered, only_quote, quote_of, rest_fault}
-use Rattle.serve_core.specs.Quoting.{LineEnds, Place, Submits, end_of, end_with, place, quote_in}
+use Rattle.serve_core.specs.QuoteFiles.{begins_quote, no_quote, nth_quote, numbered, only_quote, quote_of}
+use Rattle.serve_core.specs.Quoting.{LineEnds, Place, Submits, end_of, place, quote_in}
 use Rattle.serve_core.specs.Turning.{GrewBy}
 use Rattle.serve_core.specs.declared.quotes.Quote.{Quote}
-use Rattle.serve_core.specs.declared.quotes.QuoteEnd.TheVariants.{BadLine}
 use Rattle.serve_core.proofs.QuotesMiddle.{submits_none}
 use Rattle.serve_core.proofs.SessionLaws.{moments_none}
 

@@ -5,7 +5,7 @@ use Rattle.fix_fields.specs.declared.field.FieldFault.{FieldFault}
 use Rattle.fix_fields.specs.Fields.{split}
 use Rattle.fix_frames.specs.Reading.{reading_of}
 use Rattle.session_core.specs.declared.state.EndCause.TheVariants.{NoNumber, WrongName, TooLong}
-use Rattle.session_core.specs.Content.{content_of}
+use Rattle.fix_fields.specs.Content.{content_of}
 use Rattle.session_core.specs.Lookup.{message_number, value_of}
 use Rattle.fix_write.specs.declared.tags.TheConstants.{SENDER_COMP_ID}
 use Rattle.venue_words.specs.declared.config.Config.{Config}

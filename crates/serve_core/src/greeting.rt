@@ -1,14 +1,14 @@
 //! Who a connection is of.
 ghost use Rattle.std.specs.Prelude.{◌≡◌, ◌≢◌, ◌<◌, ◌≤◌, ◌++◌, ℕ, List, Ok, Some, length, IfOk, IfSome};
-ghost use Rattle.venue_words.specs.declared.limits.TheConstants.{MAX_FRAME_BYTES, MAX_MEMBERS};
+ghost use Rattle.venue_words.specs.declared.limits.TheConstants.{MAX_MEMBERS};
 ghost use Rattle.serve_core.specs.Greeting.{IsAmong, IsSaidBy, SayTheSame, greeted_by, greeting_of};
 
-use fix_fields::{FieldFault, fields};
+use fix_fields::{FieldFault, Frame, fields};
 use fix_frames::{Framer, Next};
 use quote_intake::number_in;
 use session_core::lookup::message_number;
 use session_core::tags::SENDER_COMP_ID;
-use session_core::{EndCause, MessageFields, content_of};
+use session_core::{EndCause, MessageFields};
 use std::alloc::Global;
 use venue_words::{Config, NoMemory};
 
@@ -42,14 +42,17 @@ fn greeted_by(config: &Config, fields: &MessageFields<'_>) -> Greeting
 }
 
 /// What a frame says of whose the connection is: nothing where it does not split into fields.
-fn greeting_in(alloc: Global, config: &Config, frame: &[u8]) -> Result<Option<Greeting>, NoMemory>
+fn greeting_in(
+    alloc: Global,
+    config: &Config,
+    frame: &Frame<'_>,
+) -> Result<Option<Greeting>, NoMemory>
     requires members { length config.now.members ≤ MAX_MEMBERS }
-    requires short { length frame.now ≤ MAX_FRAME_BYTES }
-    ensures said { IfOk result (λ said. IsSaidBy config.now frame.now said) }
+    ensures said { IfOk result (λ said. IsSaidBy config.now frame.now.bytes.now said) }
     ensures some { IfOk result (λ said. said ≢ Some Greeting.Unnamed) }
     ensures member { IfOk result (λ said. IfSome said (IsAmong (length config.now.members))) }
 {
-    match fields(alloc, content_of(frame)) {
+    match fields(alloc, frame.content()) {
         Ok(fields) => Ok(Some(greeted_by(config, &MessageFields::of(fields)))),
         Err(FieldFault::NoMemory) => Err(NoMemory),
         Err(_) => Ok(None),
@@ -66,7 +69,7 @@ fn next_greeting(alloc: Global, config: &Config, framer: &mut Framer) -> Result<
     'frames: loop {
         match framer.next() {
             Next::Frame(frame) => {
-                let said = greeting_in(alloc, config, frame)?;
+                let said = greeting_in(alloc, config, &frame)?;
                 match said {
                     Some(greeting) => return Ok(greeting),
                     None => {}

@@ -12,7 +12,7 @@ use Rattle.session_core.specs.declared.runs.Input.TheVariants.{Connection, Frame
 use Rattle.session_core.specs.declared.state.State.{State}
 use Rattle.session_core.specs.declared.state.Phase.TheVariants.{New, Ended}
 use Rattle.session_core.specs.Lookup.{message_number}
-use Rattle.session_core.specs.Content.{content_of}
+use Rattle.fix_fields.specs.Content.{content_of}
 use Rattle.session_core.specs.State.{is_up, is_up_phase, is_over, cause_of, heard}
 use Rattle.session_core.specs.Machine.{Machine, Outcome, rests, connected, given_up, sent_now, request_of, incoming, plan_for, carried_out, on_fields, on_frame, on_clock, on_overlong, on_send, on_reject}
 use Rattle.session_core.specs.Runs.{outcome_of, send_if_up, reject_if_up}

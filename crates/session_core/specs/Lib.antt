@@ -5,7 +5,6 @@ pub mod Answers
 pub mod Bodies
 pub mod Cases
 pub mod Checks
-pub mod Content
 pub mod EndCauses
 pub mod Frames
 pub mod Logon

@@ -15,7 +15,7 @@ use Rattle.session_core.specs.declared.plan.RequestHead.{RequestHead}
 use Rattle.session_core.specs.declared.plan.Plan.{Plan}
 use Rattle.session_core.specs.declared.turn.Turn.{Turn}
 use Rattle.session_core.specs.Lookup.{kind_of, message_number}
-use Rattle.session_core.specs.Content.{content_of}
+use Rattle.fix_fields.specs.Content.{content_of}
 use Rattle.session_core.specs.State.{heard, is_up, is_over, cause_of}
 use Rattle.session_core.specs.Bodies.{message, reject}
 use Rattle.session_core.specs.Cases.{on_no_number, on_message, on_tick, on_too_long}

@@ -6,7 +6,6 @@ mod answers;
 mod bodies;
 mod cases;
 mod checks;
-mod content;
 mod frames;
 mod logon;
 pub mod lookup;
@@ -27,7 +26,6 @@ pub mod tags;
 mod turn;
 
 pub use checks::{FailedCheck, Form, Item, first_failed};
-pub use content::content_of;
 pub use message::{Kept, Message, Request};
 pub use message_fields::MessageFields;
 pub use message_list::{Body, ListedMessage, MessageList};

@@ -4,7 +4,6 @@ ghost use Rattle.std.specs.Prelude.{◌≡◌, ◌≤◌, ◌<◌, length, ◌++
 use crate::answers::drops;
 use crate::bodies::reject;
 use crate::cases::{on_message, on_tick, on_too_long};
-use crate::content::content_of;
 use crate::frames::{new_frame, push_listed_frames, push_new_frames};
 use crate::lookup::{kind_of, message_number};
 use crate::message::Incoming;
@@ -15,11 +14,10 @@ use crate::resent::frames_of_span;
 use crate::sent::SentMessages;
 use crate::state::{EndCause, Phase, State, cause_of, heard, is_over, is_up};
 use crate::turn::{Turn, request_of, sent_now};
-use fix_fields::{Field, FieldFault, fields};
+use fix_fields::{Field, FieldFault, Frame, fields};
 use fix_write::MessageType;
 use std::alloc::Global;
 use std::marker::Model;
-use venue_words::limits::MAX_FRAME_BYTES;
 use venue_words::{Bytes, Items, NoMemory};
 
 /// The session of one member, over one connection after the other: numbers and what was sent outlive a connection.
@@ -238,10 +236,9 @@ impl Session {
 
     /// What a frame does. Nothing changes where memory is wanted.
     #[tactic(auto, unfolding(crate::specs::Machine::on_frame))]
-    fn work_frame<'a>(&mut self, frame: &'a [u8], moment: i64) -> Result<Turn<'a>, NoMemory>
-        requires { length frame.now ≤ MAX_FRAME_BYTES }
-        ensures machine { OnOk result (self.new ≡ (on_frame self.old frame.now moment).machine) }
-        ensures turn { IfOk result (λ turn. turn ≡ (on_frame self.old frame.now moment).turn) }
+    fn work_frame<'a>(&mut self, frame: Frame<'a>, moment: i64) -> Result<Turn<'a>, NoMemory>
+        ensures machine { OnOk result (self.new ≡ (on_frame self.old frame.entry.bytes.now moment).machine) }
+        ensures turn { IfOk result (λ turn. turn ≡ (on_frame self.old frame.entry.bytes.now moment).turn) }
         ensures up { IfOk result (λ turn. OnSome turn.request (IsUp self.new)) }
         ensures over { IsOver self.old → IsOk result }
         ensures err { OnErr result (self.new ≡ self.old) }
@@ -249,7 +246,7 @@ impl Session {
         if is_over(self.state.phase) {
             return Ok(self.quiet());
         }
-        match fields(self.alloc, content_of(frame)) {
+        match fields(self.alloc, frame.content()) {
             Ok(fields) => self.work_fields(fields, moment),
             Err(FieldFault::NoMemory) => Err(NoMemory),
             Err(_) => Ok(self.quiet()),
@@ -259,10 +256,9 @@ impl Session {
     /// Works a frame that was received at a moment, in milliseconds since 1970-01-01 00:00 UTC. The session is up
     /// where it hands a message out. Where memory is wanted the connection ends without a cause, and its replies are
     /// lost; the next connection can ask for what was kept before. A session that has ended wants none.
-    pub fn take<'a>(&mut self, frame: &'a [u8], moment: i64) -> Result<Turn<'a>, NoMemory>
-        requires { length frame.now ≤ MAX_FRAME_BYTES }
-        ensures machine { OnOk result (self.new ≡ (on_frame self.old frame.now moment).machine) }
-        ensures turn { IfOk result (λ turn. turn ≡ (on_frame self.old frame.now moment).turn) }
+    pub fn take<'a>(&mut self, frame: Frame<'a>, moment: i64) -> Result<Turn<'a>, NoMemory>
+        ensures machine { OnOk result (self.new ≡ (on_frame self.old frame.entry.bytes.now moment).machine) }
+        ensures turn { IfOk result (λ turn. turn ≡ (on_frame self.old frame.entry.bytes.now moment).turn) }
         ensures up { IfOk result (λ turn. OnSome turn.request (IsUp self.new)) }
         ensures over { IsOver self.old → IsOk result }
         ensures err { OnErr result (self.new ≡ given_up self.old) }

@@ -1,26 +1,12 @@
 -- What the framer's answers say of the stream.
-use Rattle.std.proofs.Common.{◌≡◌, ℕ, ◌+◌, ◌<◌, ◌≤◌, ℤ, List, [], ◌∷◌, ◌++◌, length, drop, refl, sym, ◌∙◌, ap, arith, length-drop}
+use Rattle.std.proofs.Common.{◌≡◌, ℕ, ℤ, List, [], refl, sym, ◌∙◌, ap}
 use Rattle.std.proofs.lemmas.List.{append-nil}
-use Rattle.venue_words.specs.declared.limits.TheConstants.{MAX_FRAME_BYTES}
-use Rattle.fix_frames.specs.FoundLaws.{whole_found}
-use Rattle.fix_frames.specs.ReadingLaws.{lies_in, reading-given, reading-waited, reading-none, reading-exceeded}
+use Rattle.fix_frames.specs.ReadingLaws.{given_shorter, reading-given, reading-waited, reading-none, reading-exceeded}
 use Rattle.fix_frames.specs.Reading.{reading_of}
 use Rattle.fix_frames.specs.Streams.{Stream, HasGiven, HasWaited, HasExceeded}
 use Rattle.session_core.specs.declared.turn.Turn.{Turn}
 use Rattle.session_core.specs.Machine.{Machine, on_frame, on_overlong}
 use Rattle.session_stream.specs.Hearing.{TakesFrame, Exceeds, Waits}
-
--- a frame that was given is not too long
-pub given_short : (old new : Stream) (frame : List ℕ) → HasGiven old new frame → length frame ≤ MAX_FRAME_BYTES
-given_short old new frame h =
-    let l = lies_in (old.kept ++ []) h.0 frame (h.2 []) in
-    (whole_found (drop h.0 (old.kept ++ [])) (length frame) l.whole).1
-
--- and leaves fewer bytes
-pub given_shorter : (old new : Stream) (frame : List ℕ) → HasGiven old new frame → length new.kept < length old.kept
-given_shorter old new frame h =
-    let l = lies_in (old.kept ++ []) h.0 frame (h.2 []) in
-    omega (arith, l.some, h.1.inside, ap length h.1.kept, length-drop (h.0 + length frame) old.kept)
 
 -- the moment may be read in another spelling
 pub takes_frame : (moment read : ℤ) (session next : Machine) (old new : Stream) (frame : List ℕ) (turn : Turn) → read ≡ moment → HasGiven old new frame

@@ -9,7 +9,7 @@ use Rattle.fix_fields.specs.Fields.{split}
 use Rattle.session_core.specs.declared.plan.Plan.{Plan}
 use Rattle.session_core.specs.declared.state.State.{State}
 use Rattle.session_core.specs.Cases.{on_too_long}
-use Rattle.session_core.specs.Content.{content_of}
+use Rattle.fix_fields.specs.Content.{content_of}
 use Rattle.session_core.specs.Lookup.{message_number}
 use Rattle.session_core.specs.State.{cause_of, heard, is_over}
 use Rattle.session_core.specs.declared.message.Request.{Request}

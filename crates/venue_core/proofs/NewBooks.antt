@@ -1,18 +1,11 @@
 -- The books that are made take what is configured.
-use Rattle.std.proofs.Common.{◌≡◌, ℕ, zero, suc, ◌+◌, ◌<◌, Bool, true, ◌&&◌, nat_lt, List, [], ◌∷◌, ◌++◌, map, length, get_or, take, sym, refl, ap, ◌∙◌, subst, arith}
+use Rattle.std.proofs.Common.{◌≡◌, ℕ, zero, suc, ◌+◌, ◌<◌, Bool, true, ◌&&◌, List, [], ◌∷◌, ◌++◌, map, length, get_or, take, sym, ap, ◌∙◌, arith}
 use Rattle.std.specs.List.{All, AllByRecursion}
 use Rattle.std.proofs.lemmas.List.{map-append, take_more}
-use Rattle.std.proofs.lemmas.List.Elements.{All-head, All-tail, All-weaker}
-use Rattle.venue_words.specs.Conditions.{fits_limits}
-use Rattle.venue_words.specs.Floors.{Setup, is_configured}
-use Rattle.venue_words.specs.declared.command.Command.{Command}
-use Rattle.venue_words.specs.declared.command.Command.TheVariants.{Quote, New, Cancel, Replace, Status}
+use Rattle.std.proofs.lemmas.List.Elements.{All-head, All-tail}
 use Rattle.symbol_book.specs.Book.{BookView}
-use Rattle.symbol_book.specs.Commands.{takes_command}
-use Rattle.symbol_book.specs.Setting.{setting_of, markets_in}
-use Rattle.symbol_book.specs.SettingLaws.{markets_in-setting_of}
+use Rattle.symbol_book.specs.Setting.{setting_of}
 use Rattle.venue_core.specs.Books.{IsNewBook}
-use Rattle.venue_core.specs.Venues.{TakesConfigured}
 
 both : (a b : Bool) → a ≡ true → b ≡ true → (a && b) ≡ true
 both a b p q = (λ k. p k && q k)

@@ -4,13 +4,13 @@ use Rattle.std.specs.List.{All, range_with_len}
 use Rattle.std.proofs.Math.Nat.{add-zero}
 use Rattle.std.proofs.lemmas.List.Elements.{All-nil, All-cons, All-head, All-tail}
 use Rattle.std.proofs.lemmas.Option.{get_or_from_slice_get}
-use Rattle.venue_words.specs.Floors.{FloorMark, Setup}
+use Rattle.venue_words.specs.Floors.{FloorMark}
 use Rattle.turn_gate.specs.Seats.{SeatState}
 use Rattle.venue_core.specs.Joining.{HaveParts, IsFirstSeat, after_split, split_off}
 use Rattle.turn_gate.specs.Rule.{whole}
 use Rattle.venue_core.specs.Marks.{mark_of}
 use Rattle.venue_core.specs.SeatLaws.{gates_after_split, gates_split_off, parts_after_split, parts_split_off, same_mark_gates, same_mark_parts}
-use Rattle.venue_core.specs.Venues.{VenueId, AreSeatsOf, setup_in}
+use Rattle.venue_core.specs.Venues.{VenueId, AreSeatsOf}
 use Rattle.venue_server.specs.Seating.{HasSeats}
 
 -- seats with the same mark are as they were

@@ -1,4 +1,4 @@
-use Rattle.std.proofs.Common.{◌≡◌, ◌+◌, ℕ, None, Some, Ok, Err, ap, refl, sym, ◌∙◌}
+use Rattle.std.proofs.Common.{◌≡◌, ◌+◌, ℕ, None, Some, Err, ap, refl, sym, ◌∙◌}
 use Rattle.line_reader.specs.NextLaws.{gives_line, gives_end, gives_long}
 use Rattle.audit_core.specs.Ahead.{at}
 use Rattle.audit_core.specs.declared.verdict.Verdict.TheVariants.{Differs, Same}

@@ -3,7 +3,7 @@ use Rattle.std.proofs.Common.{◌≡◌, ◌++◌, ℤ, subst, w64, to_z, of_z, 
 use Rattle.fix_frames.specs.declared.framer.Next.{Next}
 use Rattle.fix_frames.specs.Reading.{reading_of}
 use Rattle.fix_frames.specs.Streams.{IsNext}
-use Rattle.session_stream.specs.AnsweringLaws.{given_short, given_shorter}
+use Rattle.fix_frames.specs.ReadingLaws.{given_shorter}
 use Rattle.session_stream.specs.Work.{work_of_reading}
 use Rattle.drop_copy.specs.Answering.{refuses}
 use Rattle.drop_copy.proofs.Frames.{going_none, going_frame, gone_waited, gone_exceeded}
@@ -12,17 +12,11 @@ use Rattle.drop_copy.proofs.answering.work_frames.Goals as goal
 pub frames-init : goal.frames-init
 frames-init c = going_none _ c.args.session.now c.args.framer.now.kept c.args.replies.now.items
 
-pub work_frame-requires : goal.work_frame-requires
-work_frame-requires c =
-    let old = c.frames.framer in
-    let new = c.next.follows.lender-at-none in
-    given_short old new c.in-Frame.frame.now (subst (λ (r : Next). IsNext old r new) c.in-Frame.is c.next.follows.holds-at-none)
-
 pub frames-smaller : goal.frames-smaller
 frames-smaller c =
     let old = c.frames.framer in
     let new = c.next.follows.lender-at-none in
-    given_shorter old new c.in-Frame.frame.now (subst (λ (r : Next). IsNext old r new) c.in-Frame.is c.next.follows.holds-at-none)
+    given_shorter old new c.in-Frame.frame.bytes.now (subst (λ (r : Next). IsNext old r new) c.in-Frame.is c.next.follows.holds-at-none)
 
 pub frames-preserved : goal.frames-preserved
 frames-preserved c =
@@ -31,7 +25,7 @@ frames-preserved c =
     let new = c.next.follows.lender-at-none in
     let done = c.in_ok-work_frame-in-Frame.ensures in
     going_frame m c.args.session.now c.args.framer.now.kept c.args.replies.now.items c.frames.replies.items c.work_frame.new.replies.items
-    c.frames.session c.work_frame.new.session old new c.in-Frame.frame.now c.frames.invariant
+    c.frames.session c.work_frame.new.session old new c.in-Frame.frame.bytes.now c.frames.invariant
     (subst (λ (r : Next). IsNext old r new) c.in-Frame.is c.next.follows.holds-at-none) done.session done.replies
 
 pub returns-in-Wait-clause-session : goal.returns-in-Wait-clause-session

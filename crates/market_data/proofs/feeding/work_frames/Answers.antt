@@ -2,7 +2,7 @@
 use Rattle.std.proofs.Common.{◌∙◌, subst}
 use Rattle.fix_frames.specs.declared.framer.Next.{Next}
 use Rattle.fix_frames.specs.Streams.{IsNext}
-use Rattle.session_stream.specs.AnsweringLaws.{given_short, given_shorter}
+use Rattle.fix_frames.specs.ReadingLaws.{given_shorter}
 use Rattle.market_data.specs.Feeding.{feeding_of}
 use Rattle.market_data.proofs.FeedingSteps.{going_none, going_frame, frame_end, adds_ended, adds_waited, adds_exceeded, map_if_ok}
 use Rattle.market_data.proofs.feeding.work_frames.Goals as goal
@@ -11,17 +11,11 @@ pub frames-init : goal.frames-init
 frames-init c source bytes piece fed =
     (going_none c.args.config.now source bytes piece c.args.text.now.items _ fed, fed.unended)
 
-pub work_frame-requires-clause-short : goal.work_frame-requires-clause-short
-work_frame-requires-clause-short c =
-    let old = c.frames.framer in
-    let new = c.next.follows.lender-at-none in
-    given_short old new c.in-Frame.frame.now (subst (λ (r : Next). IsNext old r new) c.in-Frame.is c.next.follows.holds-at-none)
-
 pub frames-smaller : goal.frames-smaller
 frames-smaller c =
     let old = c.frames.framer in
     let new = c.next.follows.lender-at-none in
-    given_shorter old new c.in-Frame.frame.now (subst (λ (r : Next). IsNext old r new) c.in-Frame.is c.next.follows.holds-at-none)
+    given_shorter old new c.in-Frame.frame.bytes.now (subst (λ (r : Next). IsNext old r new) c.in-Frame.is c.next.follows.holds-at-none)
 
 pub frames-preserved : goal.frames-preserved
 frames-preserved c source bytes piece fed =
@@ -30,9 +24,9 @@ frames-preserved c source bytes piece fed =
     let new = c.next.follows.lender-at-none in
     let done = c.in_ok-cause-in-Frame.ensures in (
       going_frame c.args.config.now source bytes piece c.args.text.now.items c.frames.text.items c.work_frame.new.text.items
-          c.frames.session c.work_frame.new.session old new c.frames.last c.work_frame.new.last c.in-Frame.frame.now i.0
+          c.frames.session c.work_frame.new.session old new c.frames.last c.work_frame.new.last c.in-Frame.frame.bytes.now i.0
           (subst (λ (r : Next). IsNext old r new) c.in-Frame.is c.next.follows.holds-at-none) done.session done.lines done.last,
-      frame_end c.args.config.now source c.frames.session c.work_frame.new.session c.in-Frame.frame.now _ done.session done.ended ∙ c.in-None.is,
+      frame_end c.args.config.now source c.frames.session c.work_frame.new.session c.in-Frame.frame.bytes.now _ done.session done.ended ∙ c.in-None.is,
     )
 
 pub returns-in-Some : goal.returns-in-Some
@@ -44,9 +38,9 @@ returns-in-Some c = record {
       let done = c.in_ok-cause-in-Frame.ensures in
       let going =
       going_frame c.args.config.now source bytes piece c.args.text.now.items c.frames.text.items c.work_frame.new.text.items
-      c.frames.session c.work_frame.new.session old new c.frames.last c.work_frame.new.last c.in-Frame.frame.now i.0
+      c.frames.session c.work_frame.new.session old new c.frames.last c.work_frame.new.last c.in-Frame.frame.bytes.now i.0
       (subst (λ (r : Next). IsNext old r new) c.in-Frame.is c.next.follows.holds-at-none) done.session done.lines done.last in
-      let cause = frame_end c.args.config.now source c.frames.session c.work_frame.new.session c.in-Frame.frame.now _ done.session done.ended ∙ c.in-Some.is in
+      let cause = frame_end c.args.config.now source c.frames.session c.work_frame.new.session c.in-Frame.frame.bytes.now _ done.session done.ended ∙ c.in-Some.is in
       let there = feeding_of c.work_frame.new.session new.kept c.work_frame.new.last in
       (going.added, going.text_is, adds_ended c.args.config.now source bytes piece c.args.text.now.items c.work_frame.new.text.items there there c.in-Some.cause going cause);
 }

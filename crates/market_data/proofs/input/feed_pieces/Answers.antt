@@ -1,5 +1,5 @@
 -- From the middle of the input to its end, or to the next piece.
-use Rattle.std.proofs.Common.{◌≡◌, ◌+◌, ◌-◌, ◌<◌, ◌≤◌, Option, IfSome, ℕ, List, min, take, length, length-take, refl, sym, ◌∙◌, ap, subst, arith}
+use Rattle.std.proofs.Common.{◌≡◌, ◌+◌, ◌-◌, ◌<◌, Option, IfSome, ℕ, min, take, length, length-take, sym, ap, subst, arith}
 use Rattle.std.specs.Io.KnownBytes.{Consumes}
 use Rattle.session_core.specs.declared.state.EndCause.{EndCause}
 use Rattle.market_data.specs.declared.status.MarketStatus.{MarketStatus}

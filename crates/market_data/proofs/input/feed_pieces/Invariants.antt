@@ -1,5 +1,5 @@
 -- The lines of the bytes that were given were put.
-use Rattle.std.proofs.Common.{◌≡◌, ◌-◌, ◌≤◌, IsTrue}
+use Rattle.std.proofs.Common.{◌-◌, ◌≤◌, IsTrue}
 use Rattle.market_data.specs.declared.input.TheConstants.{MAX_INPUT_BYTES}
 use Rattle.market_data.proofs.InputSteps.{InMiddle}
 use Rattle.market_data.proofs.input.feed_pieces.Given as goal

@@ -1,5 +1,5 @@
 -- The lines of the quotes that are left stand behind those of the text.
-use Rattle.std.proofs.Common.{◌≡◌, ◌++◌, drop, map}
+use Rattle.std.proofs.Common.{◌≡◌, ◌++◌, drop}
 use Rattle.market_data.specs.Lines.{lines_from, last_moment, timed}
 use Rattle.market_data.proofs.LineSteps.{timed_all}
 use Rattle.market_data.proofs.lines.push_snapshot.Given as goal

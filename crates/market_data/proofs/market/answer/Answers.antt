@@ -1,4 +1,4 @@
-use Rattle.std.proofs.Common.{Err, sym, ◌∙◌, ap, subst}
+use Rattle.std.proofs.Common.{Err, sym, ap, subst}
 use Rattle.std.specs.Prelude.{option_and_then}
 use Rattle.program_words.specs.Words.{texts}
 use Rattle.market_data.specs.Plan.{form_of}

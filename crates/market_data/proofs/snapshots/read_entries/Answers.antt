@@ -1,5 +1,5 @@
 -- Each entry is passed, and behind the last one none is left.
-use Rattle.std.proofs.Common.{◌≡◌, List, drop, subst, sym, ◌∙◌, ap, append-nil, ◌++◌}
+use Rattle.std.proofs.Common.{List, drop, subst, sym, ◌∙◌, ap, append-nil, ◌++◌}
 use Rattle.std.proofs.Math.ListN.{drop_of_length-le}
 use Rattle.std.proofs.lemmas.List.{drop-drop}
 use Rattle.fix_fields.specs.declared.field.Field.{Field}

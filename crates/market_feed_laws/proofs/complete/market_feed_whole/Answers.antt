@@ -1,5 +1,5 @@
 -- The run ended with the answered status, and came to what the files say.
-use Rattle.std.proofs.Common.{◌≡◌, ◌⊎◌, inl, inr, IfSome, sym, ◌∙◌, subst}
+use Rattle.std.proofs.Common.{◌≡◌, inl, inr, IfSome, sym, ◌∙◌, subst}
 use Rattle.market_data.specs.declared.status.MarketStatus.{MarketStatus}
 use Rattle.market_data.specs.declared.status.MarketStatus.TheVariants.{ReadFault, WriteFault}
 use Rattle.market_data.specs.Plan.{plan_of}

@@ -14,7 +14,7 @@ returns-in-Some-2-clause-replies g c =
     let moment : to_z w64 (of_z w64 c.args.origin.moment) ≡ c.args.origin.moment = search rules in
     let reply : option_to_list (Some c.in-Some-2.reply) ≡ (answer c.args.origin.config.now c.args.origin.member c.args.origin.moment c.take.new.self c.in-Some.request).replies =
     cc (c.in_ok-reply.ensures.reply, c.in-Some-2.is, c.in-Some.request-is) in
-    reply_added c.args.origin.config.now c.args.origin.member c.args.origin.moment _ c.args.session.now c.take.new.self c.args.frame.now c.in_ok-turn.turn c.in-Some.request c.in-Some-2.reply
+    reply_added c.args.origin.config.now c.args.origin.member c.args.origin.moment _ c.args.session.now c.take.new.self c.args.frame.bytes.now c.in_ok-turn.turn c.in-Some.request c.in-Some-2.reply
     c.args.worked.now.replies.items c.into_vec-own.result.items c.reserve.new.self.items c.push_reserved.new.self.items moment
     c.in_ok-turn.ensures.turn c.in_ok-turn.ensures.machine c.in-Some.is reply c.into_vec-own.ensures
     (c.reserve.ensures.items ∙ c.in_ok-append.ensures.items) c.push_reserved.ensures.items
@@ -23,19 +23,19 @@ pub returns-in_err-append-clause-gave_up : goal.returns-in_err-append-clause-gav
 returns-in_err-append-clause-gave_up g c =
     let moment : to_z w64 (of_z w64 c.args.origin.moment) ≡ c.args.origin.moment = search rules in
     let p = err_from_is_err_and c.from_residual-in_err-append.result c.from_residual-in_err-append.ensures.1 in
-    rw p.1 (gave_up_behind c.args.origin.moment _ c.args.session.now c.take.new.self c.args.frame.now moment (c.in_ok-turn.ensures.machine))
+    rw p.1 (gave_up_behind c.args.origin.moment _ c.args.session.now c.take.new.self c.args.frame.bytes.now moment (c.in_ok-turn.ensures.machine))
 
 pub returns-in_err-reserve-clause-gave_up : goal.returns-in_err-reserve-clause-gave_up
 returns-in_err-reserve-clause-gave_up g c =
     let moment : to_z w64 (of_z w64 c.args.origin.moment) ≡ c.args.origin.moment = search rules in
     let p = err_from_is_err_and c.from_residual-in_err-reserve.result c.from_residual-in_err-reserve.ensures.1 in
-    rw p.1 (gave_up_behind c.args.origin.moment _ c.args.session.now c.take.new.self c.args.frame.now moment (c.in_ok-turn.ensures.machine))
+    rw p.1 (gave_up_behind c.args.origin.moment _ c.args.session.now c.take.new.self c.args.frame.bytes.now moment (c.in_ok-turn.ensures.machine))
 
 pub returns-in_err-reply-clause-gave_up : goal.returns-in_err-reply-clause-gave_up
 returns-in_err-reply-clause-gave_up g c =
     let moment : to_z w64 (of_z w64 c.args.origin.moment) ≡ c.args.origin.moment = search rules in
     let p = err_from_is_err_and c.from_residual-in_err-reply.result c.from_residual-in_err-reply.ensures.1 in
-    rw p.1 (gave_up_behind c.args.origin.moment _ c.args.session.now c.answer.new.session c.args.frame.now moment (c.in_err-reply.ensures.err ∙ c.in_ok-turn.ensures.machine))
+    rw p.1 (gave_up_behind c.args.origin.moment _ c.args.session.now c.answer.new.session c.args.frame.bytes.now moment (c.in_err-reply.ensures.err ∙ c.in_ok-turn.ensures.machine))
 
 pub returns-in_err-turn-clause-none : goal.returns-in_err-turn-clause-none
 returns-in_err-turn-clause-none g c =
@@ -58,7 +58,7 @@ returns-in_err-reply-clause-none g c =
     let refusal = c.in_err-reply.field-0.0 in
     let moment : to_z w64 (of_z w64 c.args.origin.moment) ≡ c.args.origin.moment = search rules in
     let p = err_from_is_err_and c.from_residual-in_err-reply.result c.from_residual-in_err-reply.ensures.1 in
-    let same = frame_submits origin.config.now origin.member origin.moment _ c.args.session.now c.take.new.self c.args.frame.now c.in_ok-turn.turn c.in-Some.request moment
+    let same = frame_submits origin.config.now origin.member origin.moment _ c.args.session.now c.take.new.self c.args.frame.bytes.now c.in_ok-turn.turn c.in-Some.request moment
     c.in_ok-turn.ensures.turn c.in_ok-turn.ensures.machine c.in-Some.is in
     rw (p.1, p.2)
     (subst (λ (some : List Submission). TookNone g.F.Floor.at g.F.Floor.step_limit (g.F.Floor.mark c.args.floor.now) origin.feed origin.moment refusal some (c.args.floor.now, c.args.steps.now) (c.answer.new.floor, c.answer.new.steps))
@@ -72,14 +72,14 @@ returns-in-Some-2-clause-session g c =
     let moment : to_z w64 (of_z w64 c.args.origin.moment) ≡ c.args.origin.moment = search rules in
     let answered : c.answer.new.session ≡ (answer origin.config.now origin.member origin.moment c.take.new.self c.in-Some.request).session = cc (c.in_ok-reply.ensures.session, c.in-Some.request-is) in
     answered
-    ∙ sym (frame_session origin.config.now origin.member origin.moment _ c.args.session.now c.take.new.self c.args.frame.now c.in_ok-turn.turn c.in-Some.request moment
+    ∙ sym (frame_session origin.config.now origin.member origin.moment _ c.args.session.now c.take.new.self c.args.frame.bytes.now c.in_ok-turn.turn c.in-Some.request moment
     c.in_ok-turn.ensures.turn c.in_ok-turn.ensures.machine c.in-Some.is)
 
 pub returns-in-Some-2-clause-took : goal.returns-in-Some-2-clause-took
 returns-in-Some-2-clause-took g c =
     let origin = c.args.origin in
     let moment : to_z w64 (of_z w64 c.args.origin.moment) ≡ c.args.origin.moment = search rules in
-    let same = frame_submits origin.config.now origin.member origin.moment _ c.args.session.now c.take.new.self c.args.frame.now c.in_ok-turn.turn c.in-Some.request moment
+    let same = frame_submits origin.config.now origin.member origin.moment _ c.args.session.now c.take.new.self c.args.frame.bytes.now c.in_ok-turn.turn c.in-Some.request moment
     c.in_ok-turn.ensures.turn c.in_ok-turn.ensures.machine c.in-Some.is in
     subst (λ (some : List Submission). TookAll g.F.Floor.at g.F.Floor.step_limit (g.F.Floor.mark c.args.floor.now) origin.feed origin.moment some (c.args.floor.now, c.args.steps.now) (c.answer.new.floor, c.answer.new.steps))
     (sym same)

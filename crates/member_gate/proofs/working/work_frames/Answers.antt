@@ -7,22 +7,16 @@ use Rattle.venue_words.specs.Floors.{FloorMark}
 use Rattle.member_gate.specs.Submitting.{TookAll, TookNone}
 use Rattle.member_gate.specs.Working.{work_of_frame}
 use Rattle.session_core.specs.Machine.{IsOver, Machine}
-use Rattle.member_gate.proofs.Framing.{given_short, given_shorter}
+use Rattle.fix_frames.specs.ReadingLaws.{given_shorter}
 use Rattle.member_gate.proofs.Over.{over_at_limit}
 use Rattle.member_gate.proofs.Underway.{underway_more, worked_whole, worked_to_limit, stopped_at_frame, stopped_at_limit}
 use Rattle.member_gate.proofs.working.work_frames.Goals as goal
-
-pub work_frame-requires-clause-frame : goal.work_frame-requires-clause-frame
-work_frame-requires-clause-frame g c =
-    let old = c.frames.framer in
-    let new = c.next.follows.lender-at-none in
-    given_short old new c.in-Frame.frame.now (subst (λ (r : Next). IsNext old r new) c.in-Frame.is c.next.follows.holds-at-none)
 
 pub frames-smaller : goal.frames-smaller
 frames-smaller g c =
     let old = c.frames.framer in
     let new = c.next.follows.lender-at-none in
-    given_shorter old new c.in-Frame.frame.now (subst (λ (r : Next). IsNext old r new) c.in-Frame.is c.next.follows.holds-at-none)
+    given_shorter old new c.in-Frame.frame.bytes.now (subst (λ (r : Next). IsNext old r new) c.in-Frame.is c.next.follows.holds-at-none)
 
 pub frames-preserved : goal.frames-preserved
 frames-preserved g c =
@@ -31,7 +25,7 @@ frames-preserved g c =
     let origin = c.args.origin in
     let old = c.frames.framer in
     let new = c.next.follows.lender-at-none in
-    let frame = c.in-Frame.frame.now in
+    let frame = c.in-Frame.frame.bytes.now in
     let inv = c.frames.invariant in
     let done = c.in_ok-work_frame-in-Frame.ensures in
     let given = subst (λ (r : Next). IsNext old r new) c.in-Frame.is c.next.follows.holds-at-none in
@@ -52,7 +46,7 @@ returns-in_err-work_frame-in-Frame-clause-stopped g c =
     let origin = c.args.origin in
     let old = c.frames.framer in
     let new = c.next.follows.lender-at-none in
-    let frame = c.in-Frame.frame.now in
+    let frame = c.in-Frame.frame.bytes.now in
     let inv = c.frames.invariant in
     let refusal = c.in_err-work_frame-in-Frame.field-0.0 in
     let left = c.in_err-work_frame-in-Frame.ensures in

@@ -1,5 +1,5 @@
 -- The new stream is what the borrow of the framer ends with.
-use Rattle.std.proofs.Common.{ℕ, List, sym, subst}
+use Rattle.std.proofs.Common.{ℕ, List, sym, ◌∙◌, subst}
 use Rattle.fix_frames.specs.declared.framer.Next.{Next}
 use Rattle.message_laws.specs.declared.reading.Taken.TheVariants.{Frame}
 use Rattle.fix_frames.specs.Streams.{IsNext}
@@ -12,7 +12,7 @@ returns-in_ok-frame-in-Frame c =
     let old = c.args.framer.now in
     let new = c.next.follows.lender-at-none in
     let h = subst (λ (r : Next). IsNext old r new) c.in-Frame.is c.next.follows.holds-at-none in
-    subst (λ (frame : List ℕ). Takes old (Frame frame) new) (sym c.in_ok-frame-in-Frame.ensures) (takes_frame old new _ h)
+    subst (λ (frame : List ℕ). Takes old (Frame frame) new) (sym (c.in_ok-frame-in-Frame.ensures ∙ c.as_slice.ensures)) (takes_frame old new _ h)
 
 pub returns-in-Wait : goal.returns-in-Wait
 returns-in-Wait c =

@@ -1,30 +1,25 @@
 -- The first frame that splits says it, or one that is too long ends the connection, or there is none yet.
 use Rattle.std.proofs.Common.{◌≡◌, Some, sym, ◌∙◌, ap, subst}
 use Rattle.fix_frames.specs.declared.framer.Next.{Next}
+use Rattle.fix_frames.specs.ReadingLaws.{given_shorter}
 use Rattle.fix_frames.specs.Streams.{IsNext}
 use Rattle.serve_core.specs.Greeting.{IsSaidBy}
 use Rattle.serve_core.specs.declared.greeting.Greeting.TheVariants.{Unnamed}
-use Rattle.serve_core.proofs.Greetings.{given_short, given_shorter, passed_frame, said_by_frame, waited_on, none_said, too_long_said, same_then, same_here}
+use Rattle.serve_core.proofs.Greetings.{passed_frame, said_by_frame, waited_on, none_said, too_long_said, same_then, same_here}
 use Rattle.serve_core.proofs.greeting.next_greeting.Goals as goal
-
-pub greeting_in-requires-clause-short : goal.greeting_in-requires-clause-short
-greeting_in-requires-clause-short c =
-    let old = c.frames.framer in
-    let new = c.next.follows.lender-at-none in
-    given_short old new c.in-Frame.frame.now (subst (λ (r : Next). IsNext old r new) c.in-Frame.is c.next.follows.holds-at-none)
 
 pub frames-smaller : goal.frames-smaller
 frames-smaller c =
     let old = c.frames.framer in
     let new = c.next.follows.lender-at-none in
-    given_shorter old new c.in-Frame.frame.now (subst (λ (r : Next). IsNext old r new) c.in-Frame.is c.next.follows.holds-at-none)
+    given_shorter old new c.in-Frame.frame.bytes.now (subst (λ (r : Next). IsNext old r new) c.in-Frame.is c.next.follows.holds-at-none)
 
 pub frames-preserved : goal.frames-preserved
 frames-preserved c =
     let config = c.args.config.now in
     let old = c.frames.framer in
     let new = c.next.follows.lender-at-none in
-    let frame = c.in-Frame.frame.now in
+    let frame = c.in-Frame.frame.bytes.now in
     let given = subst (λ (r : Next). IsNext old r new) c.in-Frame.is c.next.follows.holds-at-none in
     same_then config c.args.framer.now.kept old.kept new.kept c.frames.invariant
     (passed_frame config old new frame given (subst (IsSaidBy config frame) c.in-None.is c.in_ok-said-in-Frame.ensures.said))
@@ -34,7 +29,7 @@ returns-in-Some-clause-said c =
     let config = c.args.config.now in
     let old = c.frames.framer in
     let new = c.next.follows.lender-at-none in
-    let frame = c.in-Frame.frame.now in
+    let frame = c.in-Frame.frame.bytes.now in
     let given = subst (λ (r : Next). IsNext old r new) c.in-Frame.is c.next.follows.holds-at-none in
     said_by_frame config old new frame c.in-Some.greeting given (subst (IsSaidBy config frame) c.in-Some.is c.in_ok-said-in-Frame.ensures.said)
     ∙ sym (same_here config c.args.framer.now.kept old.kept c.frames.invariant)
