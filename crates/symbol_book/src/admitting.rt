@@ -69,33 +69,33 @@ fn accept<E: Engine + Drop, L: Ledger>(
     parts: &mut Parts<E>,
     event: &Event,
     terms: &Terms,
-    room: Copies,
+    copies: Copies,
     steps: &mut Steps<L>,
 ) -> u32
     requires tick { IsTick tick }
-    requires copies { room.shown ≡ room.order }
-    requires placed { IsPlaced room.member room.order (length parts.old.orders.items) parts.old.ids.placed }
+    requires copies { copies.shown ≡ copies.order }
+    requires placed { IsPlaced copies.member copies.order (length parts.old.orders.items) parts.old.ids.placed }
     requires engine { E.ready parts.old.engine (Some (key_of tick terms.now))
         × (E.latest parts.old.engine < event.now.number) }
     requires shares { 0 < quantity_of terms.now }
-    requires fits { (length room.order ≤ parts.old.orders.longest)
-        × NewFits tick event.now.number room.member room.order terms.now (E.best parts.old.engine)
+    requires fits { (length copies.order ≤ parts.old.orders.longest)
+        × NewFits tick event.now.number copies.member copies.order terms.now (E.best parts.old.engine)
         (E.buys parts.old.engine) (E.sells parts.old.engine) parts.old.orders.items }
     requires agree { Agree E.buys E.sells E.best parts.old }
     requires places { HasRoom (resting_in E.buys E.sells parts.old) parts.old }
-    ensures state { (enter (arrival_of_new tick event.now.number room.member room.order terms.now
+    ensures state { (enter (arrival_of_new tick event.now.number copies.member copies.order terms.now
         (state_in E.buys E.sells parts.old))).state ≡ state_in E.buys E.sells parts.new }
-    ensures reports { Reports event.now parts.old.log.list 1 (enter (arrival_of_new tick event.now.number room.member
-        room.order terms.now (state_in E.buys E.sells parts.old))).notices parts.new.log.list result }
+    ensures reports { Reports event.now parts.old.log.list 1 (enter (arrival_of_new tick event.now.number copies.member
+        copies.order terms.now (state_in E.buys E.sells parts.old))).notices parts.new.log.list result }
     ensures entered { parts.new.entered.items ≡ parts.old.entered.items ++ if_it_rests (is_immediate terms.now)
-        (row_of tick event.now.number (length parts.old.orders.items) room.member 0 terms.now) ∷ [] }
+        (row_of tick event.now.number (length parts.old.orders.items) copies.member 0 terms.now) ∷ [] }
     ensures ids { parts.new.ids.entries
-        ≡ with_id room.member room.order (length parts.old.orders.items) parts.old.ids.entries }
+        ≡ with_id copies.member copies.order (length parts.old.orders.items) parts.old.ids.entries }
     ensures settled { parts.new.ids.placed ≡ [] }
     ensures markets { parts.new.markets ≡ parts.old.markets }
     ensures small { All IsSmall parts.new.orders.items }
     ensures most { steps.new ≤ steps.old + 2048 * (E.width parts.old.engine + 1) * (examined_by_arrival
-        (arrival_of_new tick event.now.number room.member room.order terms.now
+        (arrival_of_new tick event.now.number copies.member copies.order terms.now
         (state_in E.buys E.sells parts.old)) + 1) }
     ensures best { E.best parts.new.engine ≡ E.best parts.old.engine }
     ensures latest { E.latest parts.new.engine ≡ event.now.number }
@@ -105,7 +105,7 @@ fn accept<E: Engine + Drop, L: Ledger>(
         order: copy,
         shown,
         orig: _,
-    } = room;
+    } = copies;
     let number = parts.orders.as_slice().len() as u32;
     let row = entering_row(tick, event.number, number, member, 0, terms);
     let order = accepted_order(tick, event.number, member, copy, terms);
@@ -127,7 +127,7 @@ fn accept<E: Engine + Drop, L: Ledger>(
     )
 }
 
-/// The first rule that a New breaks whose id is used up or not, or none.
+/// The first rule that a New breaks, or none. `used` says whether its own id is used up.
 #[tactic(auto, unfolding(eager_meaning::specs::Orders::known_of), using(crate::proofs::Accepting::unbroken))]
 fn rule_of_new(tick: u32, used: bool, event: &Event, terms: &Terms) -> Option<Rule>
     requires { IsTick tick }
@@ -171,16 +171,16 @@ pub fn on_new<E: Engine + Drop, L: Ledger>(
     parts: &mut Parts<E>,
     event: &Event,
     terms: &Terms,
-    room: CommandIds,
+    ids: CommandIds,
     steps: &mut Steps<L>,
 ) -> u32
     requires tick { IsTick tick }
-    requires command { event.now.command ≡ New room.own.member room.own.id terms.now }
-    requires copies { CopiesOwn room.own.member room.own.id room }
+    requires command { event.now.command ≡ New ids.own.member ids.own.id terms.now }
+    requires copies { CopiesOwn ids.own.member ids.own.id ids }
     requires settled { parts.old.ids.placed ≡ [] }
     requires engine { E.ready parts.old.engine (Some (key_of tick terms.now))
         × (E.latest parts.old.engine < event.now.number) }
-    requires fits { (length room.own.id ≤ parts.old.orders.longest)
+    requires fits { (length ids.own.id ≤ parts.old.orders.longest)
         × CanWork tick event.now.number event.now.command (state_in E.buys E.sells parts.old) }
     requires agree { Agree E.buys E.sells E.best parts.old }
     requires places { HasRoom (resting_in E.buys E.sells parts.old) parts.old }
@@ -193,7 +193,7 @@ pub fn on_new<E: Engine + Drop, L: Ledger>(
     ensures best { E.best parts.new.engine ≡ E.best parts.old.engine }
     ensures latest { E.latest parts.new.engine ≤ event.now.number }
 {
-    let CommandIds { own, copies } = room;
+    let CommandIds { own, copies } = ids;
     let number = parts.orders.as_slice().len() as u32;
     let used = parts.ids.place(own, number);
     match rule_of_new(tick, used, event, terms) {

@@ -26,24 +26,24 @@ use venue_words::{Event, Execution, Kind, RefusedRequest, Steps};
 fn cancel<E: Engine + Drop, L: Ledger>(
     parts: &mut Parts<E>,
     event: &Event,
-    room: Copies,
+    copies: Copies,
     found: Found,
     steps: &mut Steps<L>,
 ) -> u32
     requires found { (live : Live)
         × IsFoundAs parts.old.orders.items (rows_in E.buys E.sells parts.old) live found }
     requires here { found.number < length parts.old.orders.items }
-    requires placed { IsPlaced room.member room.shown found.number parts.old.ids.placed }
+    requires placed { IsPlaced copies.member copies.shown found.number parts.old.ids.placed }
     requires agree { Agree E.buys E.sells E.best parts.old }
     requires places { HasRoom (resting_in E.buys E.sells parts.old) parts.old }
     ensures state { (live : Live) → IsFoundAs parts.old.orders.items (rows_in E.buys E.sells parts.old) live found
-        → (cancel room.member room.shown room.orig.id live (state_in E.buys E.sells parts.old)).state
+        → (cancel copies.member copies.shown copies.orig.id live (state_in E.buys E.sells parts.old)).state
         ≡ state_in E.buys E.sells parts.new }
     ensures reports { (live : Live) → IsFoundAs parts.old.orders.items (rows_in E.buys E.sells parts.old) live found
-        → Reports event.now parts.old.log.list 1 (cancel room.member room.shown room.orig.id live
+        → Reports event.now parts.old.log.list 1 (cancel copies.member copies.shown copies.orig.id live
         (state_in E.buys E.sells parts.old)).notices parts.new.log.list result }
     ensures entered { parts.new.entered.items ≡ slice_set parts.old.entered.items found.number None }
-    ensures ids { parts.new.ids.entries ≡ with_id room.member room.shown found.number parts.old.ids.entries }
+    ensures ids { parts.new.ids.entries ≡ with_id copies.member copies.shown found.number parts.old.ids.entries }
     ensures settled { parts.new.ids.placed ≡ [] }
     ensures rest { (parts.new.markets ≡ parts.old.markets) × (parts.new.orders ≡ parts.old.orders) }
     ensures most { steps.new ≤ steps.old + 512 }
@@ -55,7 +55,7 @@ fn cancel<E: Engine + Drop, L: Ledger>(
         order: _,
         shown,
         orig,
-    } = room;
+    } = copies;
     let order = &parts.orders[found.number as usize];
     let view = view_closed(order, shown);
     parts.engine.cut(&found.row, steps);
@@ -75,13 +75,13 @@ pub fn on_cancel<E: Engine + Drop, L: Ledger>(
     tick: u32,
     parts: &mut Parts<E>,
     event: &Event,
-    room: CommandIds,
+    ids: CommandIds,
     steps: &mut Steps<L>,
 ) -> u32
     requires tick { IsTick tick }
-    requires command { event.now.command ≡ Cancel room.own.member room.own.id room.copies.orig.id }
-    requires own { CopiesOwn room.own.member room.own.id room }
-    requires orig { room.copies.orig.member ≡ room.own.member }
+    requires command { event.now.command ≡ Cancel ids.own.member ids.own.id ids.copies.orig.id }
+    requires own { CopiesOwn ids.own.member ids.own.id ids }
+    requires orig { ids.copies.orig.member ≡ ids.own.member }
     requires settled { parts.old.ids.placed ≡ [] }
     requires agree { Agree E.buys E.sells E.best parts.old }
     requires places { HasRoom (resting_in E.buys E.sells parts.old) parts.old }
@@ -92,7 +92,7 @@ pub fn on_cancel<E: Engine + Drop, L: Ledger>(
     ensures best { E.best parts.new.engine ≡ E.best parts.old.engine }
     ensures latest { E.latest parts.new.engine ≡ E.latest parts.old.engine }
 {
-    let CommandIds { own, copies } = room;
+    let CommandIds { own, copies } = ids;
     let live = find_named(parts, &copies);
     let used = parts.ids.place(own, number_or_zero(live));
     match rule_of_request(tick, parts, used, live, event) {

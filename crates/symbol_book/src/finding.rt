@@ -104,12 +104,12 @@ pub fn number_or_zero(live: Option<Found>) -> u32
 }
 
 /// The live order that a Cancel or a Replace names, by the copy of its id.
-pub fn find_named<E: Engine + Drop>(parts: &Parts<E>, room: &Copies) -> Option<Found>
+pub fn find_named<E: Engine + Drop>(parts: &Parts<E>, copies: &Copies) -> Option<Found>
     requires agree { Agree E.buys E.sells E.best parts.now }
     requires settled { parts.now.ids.placed ≡ [] }
     ensures here { IfSome result (λ found. found.number < length parts.now.orders.items) }
-    ensures live { IsFound parts.now.orders.items (rows_in E.buys E.sells parts.now) (live_named room.now.orig.member
-        room.now.orig.id parts.now.orders.items (rows_in E.buys E.sells parts.now)) result }
+    ensures live { IsFound parts.now.orders.items (rows_in E.buys E.sells parts.now) (live_named copies.now.orig.member
+        copies.now.orig.id parts.now.orders.items (rows_in E.buys E.sells parts.now)) result }
 {
-    find_live(&parts.ids, &parts.orders, &parts.entered, &room.orig)
+    find_live(&parts.ids, &parts.orders, &parts.entered, &copies.orig)
 }

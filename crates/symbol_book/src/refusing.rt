@@ -45,7 +45,7 @@ fn known_of(tick: u32, used: bool, live: Option<Found>, orders: &[Order]) -> Kno
     }
 }
 
-/// The first rule that a Cancel or a Replace breaks whose id is used up or not, or none.
+/// The first rule that a Cancel or a Replace breaks, or none. `used` says whether its own id is used up.
 pub fn rule_of_request<E: Engine + Drop>(
     tick: u32,
     parts: &Parts<E>,
@@ -67,7 +67,7 @@ pub fn refuse<E: Engine + Drop>(
     parts: &mut Parts<E>,
     event: &Event,
     request: RefusedRequest,
-    room: Copies,
+    copies: Copies,
     live: Option<Found>,
     rule: Rule,
 ) -> u32
@@ -75,19 +75,19 @@ pub fn refuse<E: Engine + Drop>(
     requires places { 0 < parts.old.log.places }
     ensures reports { (rows : List Priced) (is : Option Live) → IsFound parts.old.orders.items rows is live
         → Reports event.now parts.old.log.list 1
-        (record { member = room.member; kind = refusal request room.shown room.orig.id is rule } ∷ [])
+        (record { member = copies.member; kind = refusal request copies.shown copies.orig.id is rule } ∷ [])
         parts.new.log.list result }
     ensures rest { parts.new ≡ record parts.old { log = parts.new.log } }
 {
     let order = named_order(live, &parts.orders);
     let kind = Kind::Refused {
-        id: room.shown,
-        orig: room.orig.id,
+        id: copies.shown,
+        orig: copies.orig.id,
         order,
         request,
         rule,
     };
-    parts.log.push(event, 1, room.member, kind)
+    parts.log.push(event, 1, copies.member, kind)
 }
 
 /// How a refusal names a live order, where there is one.

@@ -35,7 +35,7 @@ use venue_words::{Event, Execution, Kind, Method, RefusedRequest, Row, Steps, Te
 /// The live order that a Replace names, and the copies of the request's ids.
 struct Named {
     found: Found,
-    room: Copies,
+    copies: Copies,
 }
 
 /// Whether two orders meet their minimums in the same way.
@@ -93,21 +93,21 @@ fn resize<E: Engine + Drop, L: Ledger>(
         × IsFoundAs parts.old.orders.items (rows_in E.buys E.sells parts.old) live named.found
         × (live.order.cum < quantity_of terms.now) }
     requires here { named.found.number < length parts.old.orders.items }
-    requires copies { named.room.shown ≡ named.room.order }
-    requires placed { IsPlaced named.room.member named.room.order named.found.number parts.old.ids.placed }
-    requires short { length named.room.order ≤ parts.old.orders.longest }
+    requires copies { named.copies.shown ≡ named.copies.order }
+    requires placed { IsPlaced named.copies.member named.copies.order named.found.number parts.old.ids.placed }
+    requires short { length named.copies.order ≤ parts.old.orders.longest }
     requires agree { Agree E.buys E.sells E.best parts.old }
     requires places { HasRoom (resting_in E.buys E.sells parts.old) parts.old }
     ensures state { (live : Live)
         → IsFoundAs parts.old.orders.items (rows_in E.buys E.sells parts.old) live named.found
-        → (resize tick named.room.member named.room.order named.room.orig.id terms.now live
+        → (resize tick named.copies.member named.copies.order named.copies.orig.id terms.now live
         (state_in E.buys E.sells parts.old)).state ≡ state_in E.buys E.sells parts.new }
     ensures reports { (live : Live)
         → IsFoundAs parts.old.orders.items (rows_in E.buys E.sells parts.old) live named.found
-        → Reports event.now parts.old.log.list 1 (resize tick named.room.member named.room.order
-        named.room.orig.id terms.now live (state_in E.buys E.sells parts.old)).notices parts.new.log.list result }
+        → Reports event.now parts.old.log.list 1 (resize tick named.copies.member named.copies.order
+        named.copies.orig.id terms.now live (state_in E.buys E.sells parts.old)).notices parts.new.log.list result }
     ensures ids { parts.new.ids.entries
-        ≡ with_id named.room.member named.room.order named.found.number parts.old.ids.entries }
+        ≡ with_id named.copies.member named.copies.order named.found.number parts.old.ids.entries }
     ensures settled { parts.new.ids.placed ≡ [] }
     ensures entered { parts.new.entered.items ≡ parts.old.entered.items }
     ensures markets { parts.new.markets ≡ parts.old.markets }
@@ -116,13 +116,13 @@ fn resize<E: Engine + Drop, L: Ledger>(
     ensures best { E.best parts.new.engine ≡ E.best parts.old.engine }
     ensures latest { E.latest parts.new.engine ≡ E.latest parts.old.engine }
 {
-    let Named { found, room } = named;
+    let Named { found, copies } = named;
     let Copies {
         member,
         order: copy,
         shown,
         orig,
-    } = room;
+    } = copies;
     let (price, time) = parts.engine.priced(&found.row, steps);
     parts.orders.set_terms(tick, found.number, copy, terms);
     let order = &parts.orders[found.number as usize];
@@ -150,51 +150,51 @@ fn reenter<E: Engine + Drop, L: Ledger>(
     requires found { (live : Live)
         × IsFoundAs parts.old.orders.items (rows_in E.buys E.sells parts.old) live named.found
         × (live.order.cum < quantity_of terms.now)
-        × ReplaceFits tick event.now.number named.room.member named.room.order terms.now live
+        × ReplaceFits tick event.now.number named.copies.member named.copies.order terms.now live
         (E.best parts.old.engine) (E.buys parts.old.engine) (E.sells parts.old.engine) parts.old.orders.items }
     requires here { named.found.number < length parts.old.orders.items }
-    requires copies { named.room.shown ≡ named.room.order }
-    requires id { IsPlaced named.room.member named.room.order named.found.number parts.old.ids.placed
-        × (length named.room.order ≤ parts.old.orders.longest) }
+    requires copies { named.copies.shown ≡ named.copies.order }
+    requires id { IsPlaced named.copies.member named.copies.order named.found.number parts.old.ids.placed
+        × (length named.copies.order ≤ parts.old.orders.longest) }
     requires engine { E.ready parts.old.engine (Some (key_of tick terms.now))
         × (E.latest parts.old.engine < event.now.number) }
     requires agree { Agree E.buys E.sells E.best parts.old }
     requires places { HasRoom (resting_in E.buys E.sells parts.old) parts.old }
     ensures state { (live : Live)
         → IsFoundAs parts.old.orders.items (rows_in E.buys E.sells parts.old) live named.found
-        → (enter (arrival_of_replace tick event.now.number named.room.member named.room.order
-        named.room.orig.id terms.now live (state_in E.buys E.sells parts.old))).state
+        → (enter (arrival_of_replace tick event.now.number named.copies.member named.copies.order
+        named.copies.orig.id terms.now live (state_in E.buys E.sells parts.old))).state
         ≡ state_in E.buys E.sells parts.new }
     ensures reports { (live : Live)
         → IsFoundAs parts.old.orders.items (rows_in E.buys E.sells parts.old) live named.found
-        → Reports event.now parts.old.log.list 1 (enter (arrival_of_replace tick event.now.number named.room.member
-        named.room.order named.room.orig.id terms.now live (state_in E.buys E.sells parts.old))).notices
+        → Reports event.now parts.old.log.list 1 (enter (arrival_of_replace tick event.now.number named.copies.member
+        named.copies.order named.copies.orig.id terms.now live (state_in E.buys E.sells parts.old))).notices
         parts.new.log.list result }
     ensures entered { (live : Live)
         → IsFoundAs parts.old.orders.items (rows_in E.buys E.sells parts.old) live named.found
         → parts.new.entered.items ≡ slice_set parts.old.entered.items named.found.number (if_it_rests
         (is_immediate terms.now)
-        (row_of tick event.now.number named.found.number named.room.member live.order.cum terms.now)) }
+        (row_of tick event.now.number named.found.number named.copies.member live.order.cum terms.now)) }
     ensures ids { parts.new.ids.entries
-        ≡ with_id named.room.member named.room.order named.found.number parts.old.ids.entries }
+        ≡ with_id named.copies.member named.copies.order named.found.number parts.old.ids.entries }
     ensures settled { parts.new.ids.placed ≡ [] }
     ensures markets { parts.new.markets ≡ parts.old.markets }
     ensures small { All IsSmall parts.new.orders.items }
     ensures most { (live : Live)
         → IsFoundAs parts.old.orders.items (rows_in E.buys E.sells parts.old) live named.found → steps.new
         ≤ steps.old + 512 + 2048 * (E.width parts.old.engine + 1) * (examined_by_arrival
-        (arrival_of_replace tick event.now.number named.room.member named.room.order
-        named.room.orig.id terms.now live (state_in E.buys E.sells parts.old)) + 1) }
+        (arrival_of_replace tick event.now.number named.copies.member named.copies.order
+        named.copies.orig.id terms.now live (state_in E.buys E.sells parts.old)) + 1) }
     ensures best { E.best parts.new.engine ≡ E.best parts.old.engine }
     ensures latest { E.latest parts.new.engine ≡ event.now.number }
 {
-    let Named { found, room } = named;
+    let Named { found, copies } = named;
     let Copies {
         member,
         order: copy,
         shown,
         orig,
-    } = room;
+    } = copies;
     parts.orders.set_terms(tick, found.number, copy, terms);
     let order = &parts.orders[found.number as usize];
     let row = entering_row(tick, event.number, found.number, member, order.cum, terms);
@@ -227,38 +227,38 @@ fn replace<E: Engine + Drop, L: Ledger>(
     requires found { (live : Live)
         × IsFoundAs parts.old.orders.items (rows_in E.buys E.sells parts.old) live named.found
         × (live.order.cum < quantity_of terms.now)
-        × ReplaceFits tick event.now.number named.room.member named.room.order terms.now live
+        × ReplaceFits tick event.now.number named.copies.member named.copies.order terms.now live
         (E.best parts.old.engine) (E.buys parts.old.engine) (E.sells parts.old.engine) parts.old.orders.items }
     requires here { named.found.number < length parts.old.orders.items }
-    requires copies { named.room.shown ≡ named.room.order }
-    requires id { IsPlaced named.room.member named.room.order named.found.number parts.old.ids.placed
-        × (length named.room.order ≤ parts.old.orders.longest) }
+    requires copies { named.copies.shown ≡ named.copies.order }
+    requires id { IsPlaced named.copies.member named.copies.order named.found.number parts.old.ids.placed
+        × (length named.copies.order ≤ parts.old.orders.longest) }
     requires engine { E.ready parts.old.engine (Some (key_of tick terms.now))
         × (E.latest parts.old.engine < event.now.number) }
     requires agree { Agree E.buys E.sells E.best parts.old }
     requires places { HasRoom (resting_in E.buys E.sells parts.old) parts.old }
     ensures state { (live : Live)
         → IsFoundAs parts.old.orders.items (rows_in E.buys E.sells parts.old) live named.found
-        → (replace tick event.now.number named.room.member named.room.order named.room.orig.id
+        → (replace tick event.now.number named.copies.member named.copies.order named.copies.orig.id
         terms.now live (state_in E.buys E.sells parts.old)).state ≡ state_in E.buys E.sells parts.new }
     ensures reports { (live : Live)
         → IsFoundAs parts.old.orders.items (rows_in E.buys E.sells parts.old) live named.found
-        → Reports event.now parts.old.log.list 1 (replace tick event.now.number named.room.member
-        named.room.order named.room.orig.id terms.now live (state_in E.buys E.sells parts.old)).notices
+        → Reports event.now parts.old.log.list 1 (replace tick event.now.number named.copies.member
+        named.copies.order named.copies.orig.id terms.now live (state_in E.buys E.sells parts.old)).notices
         parts.new.log.list result }
     ensures entered { (live : Live)
         → IsFoundAs parts.old.orders.items (rows_in E.buys E.sells parts.old) live named.found
-        → parts.new.entered.items ≡ entered_by_replace tick event.now.number named.room.member terms.now live
+        → parts.new.entered.items ≡ entered_by_replace tick event.now.number named.copies.member terms.now live
         parts.old.entered.items }
     ensures ids { parts.new.ids.entries
-        ≡ with_id named.room.member named.room.order named.found.number parts.old.ids.entries }
+        ≡ with_id named.copies.member named.copies.order named.found.number parts.old.ids.entries }
     ensures settled { parts.new.ids.placed ≡ [] }
     ensures markets { parts.new.markets ≡ parts.old.markets }
     ensures small { All IsSmall parts.new.orders.items }
     ensures most { (live : Live)
         → IsFoundAs parts.old.orders.items (rows_in E.buys E.sells parts.old) live named.found → steps.new
         ≤ steps.old + 2048 + 2048 * (E.width parts.old.engine + 1) * (examined_by_replace tick event.now.number
-        named.room.member named.room.order named.room.orig.id terms.now live
+        named.copies.member named.copies.order named.copies.orig.id terms.now live
         (state_in E.buys E.sells parts.old) + 1) }
     ensures best { E.best parts.new.engine ≡ E.best parts.old.engine }
     ensures latest { E.latest parts.new.engine ≤ event.now.number }
@@ -277,14 +277,14 @@ pub fn on_replace<E: Engine + Drop, L: Ledger>(
     parts: &mut Parts<E>,
     event: &Event,
     terms: &Terms,
-    room: CommandIds,
+    ids: CommandIds,
     steps: &mut Steps<L>,
 ) -> u32
     requires tick { IsTick tick }
-    requires command { event.now.command ≡ Replace room.own.member room.own.id room.copies.orig.id terms.now }
-    requires copies { CopiesOwn room.own.member room.own.id room × (room.copies.orig.member ≡ room.own.member) }
+    requires command { event.now.command ≡ Replace ids.own.member ids.own.id ids.copies.orig.id terms.now }
+    requires copies { CopiesOwn ids.own.member ids.own.id ids × (ids.copies.orig.member ≡ ids.own.member) }
     requires settled { parts.old.ids.placed ≡ [] }
-    requires fits { (length room.own.id ≤ parts.old.orders.longest)
+    requires fits { (length ids.own.id ≤ parts.old.orders.longest)
         × CanWork tick event.now.number event.now.command (state_in E.buys E.sells parts.old) }
     requires engine { E.ready parts.old.engine (Some (key_of tick terms.now))
         × (E.latest parts.old.engine < event.now.number) }
@@ -300,7 +300,7 @@ pub fn on_replace<E: Engine + Drop, L: Ledger>(
     ensures best { E.best parts.new.engine ≡ E.best parts.old.engine }
     ensures latest { E.latest parts.new.engine ≤ event.now.number }
 {
-    let CommandIds { own, copies } = room;
+    let CommandIds { own, copies } = ids;
     let live = find_named(parts, &copies);
     let used = parts.ids.place(own, number_or_zero(live));
     match rule_of_request(tick, parts, used, live, event) {
@@ -310,10 +310,7 @@ pub fn on_replace<E: Engine + Drop, L: Ledger>(
         }
         None => match live {
             Some(found) => {
-                let named = Named {
-                    found,
-                    room: copies,
-                };
+                let named = Named { found, copies };
                 replace(tick, parts, event, terms, named, steps)
             }
             None => {

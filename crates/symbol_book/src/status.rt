@@ -50,32 +50,32 @@ pub fn on_status<E: Engine + Drop, L: Ledger>(
     parts: &mut Parts<E>,
     event: &Event,
     side: u8,
-    room: Copies,
+    copies: Copies,
     steps: &mut Steps<L>,
 ) -> u32
     requires agree { Agree E.buys E.sells E.best parts.old }
     requires settled { parts.old.ids.placed ≡ [] }
     requires places { HasRoom (resting_in E.buys E.sells parts.old) parts.old }
-    ensures reports { Reports event.now parts.old.log.list 1 (on_status room.orig.member room.orig.id side
+    ensures reports { Reports event.now parts.old.log.list 1 (on_status copies.orig.member copies.orig.id side
         (state_in E.buys E.sells parts.old)).notices parts.new.log.list result }
     ensures rest { parts.new ≡ record parts.old { log = parts.new.log } }
     ensures most { steps.new ≤ steps.old + 512 }
 {
-    let member = room.orig.member;
-    let kind = match number_of(&parts.ids, &parts.orders, &room.orig) {
+    let member = copies.orig.member;
+    let kind = match number_of(&parts.ids, &parts.orders, &copies.orig) {
         Some(number) => Kind::Order {
             view: view_now(
                 &parts.engine,
                 &parts.orders,
                 &parts.entered,
                 number,
-                room.orig.id,
+                copies.orig.id,
                 steps,
             ),
             execution: Execution::Status,
         },
         None => Kind::Unknown {
-            id: room.orig.id,
+            id: copies.orig.id,
             side,
         },
     };

@@ -13,4 +13,4 @@ push_reserved-requires-clause-id g c =
 pub enter-requires-clause-small : goal.enter-requires-clause-small
 enter-requires-clause-small g c =
     subst (All IsSmall) (sym (c.push_reserved.ensures.items ∙ ap (λ (order : Order). c.args.parts.now.orders.items ++ order ∷ []) c.accepted_order-order.ensures.order))
-    (small_more c.args.tick c.args.event.now.number c.args.room.member c.args.room.order c.args.terms.now c.args.parts.now.orders.items c.requires.agree.kept.small)
+    (small_more c.args.tick c.args.event.now.number c.args.copies.member c.args.copies.order c.args.terms.now c.args.parts.now.orders.items c.requires.agree.kept.small)

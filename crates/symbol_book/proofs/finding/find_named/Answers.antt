@@ -15,5 +15,5 @@ returns-clause-live g c =
     let rows : List Priced = rows_in g.E.Engine.buys g.E.Engine.sells c.args.parts.now in
     let lent : c.deref.result.now ≡ orders = search rules in
     let lent_entries : c.deref-2.result.now ≡ c.args.parts.now.entered.items = search rules in
-    subst (λ (os : List Order). IsFound os rows (live_named c.args.room.now.orig.member c.args.room.now.orig.id os rows) c.find_live.result) lent
+    subst (λ (os : List Order). IsFound os rows (live_named c.args.copies.now.orig.member c.args.copies.now.orig.id os rows) c.find_live.result) lent
     (c.find_live.ensures.live rows (subst (λ (os : List Order). AreEntered c.deref-2.result.now os rows) (sym lent) (subst (λ (es : List (Option Row)). AreEntered es orders rows) (sym lent_entries) c.requires.agree.kept.entered_rows)))

@@ -23,7 +23,7 @@ returns-then-lowers-clause-state g c = λ live found.
     let same : c.deref.result.now ≡ c.args.parts.now.orders.items = search rules in
     let s : State = state_in g.E.Engine.buys g.E.Engine.sells c.args.parts.now in
     let e = tested c.args.tick c.args.terms.now c.args.named.found _ true c.deref.result.now c.args.parts.now.orders.items same c.lowers.ensures c.if-lowers.true _ live found in
-    ap (λ (o : Outcome). o.state) (replace_lowers c.args.tick c.args.event.now.number c.args.named.room.member c.args.named.room.order c.args.named.room.orig.id c.args.terms.now live s e) ∙ c.resize.ensures.state live found
+    ap (λ (o : Outcome). o.state) (replace_lowers c.args.tick c.args.event.now.number c.args.named.copies.member c.args.named.copies.order c.args.named.copies.orig.id c.args.terms.now live s e) ∙ c.resize.ensures.state live found
 
 pub returns-then-lowers-clause-reports : goal.returns-then-lowers-clause-reports
 returns-then-lowers-clause-reports g c = λ live found.
@@ -31,7 +31,7 @@ returns-then-lowers-clause-reports g c = λ live found.
     let s : State = state_in g.E.Engine.buys g.E.Engine.sells c.args.parts.now in
     let e = tested c.args.tick c.args.terms.now c.args.named.found _ true c.deref.result.now c.args.parts.now.orders.items same c.lowers.ensures c.if-lowers.true _ live found in
     subst (λ (o : Outcome). Reports c.args.event.now c.args.parts.now.log.list 1 o.notices c.resize.new.parts.log.list c.resize.result)
-    (sym (replace_lowers c.args.tick c.args.event.now.number c.args.named.room.member c.args.named.room.order c.args.named.room.orig.id c.args.terms.now live s e)) (c.resize.ensures.reports live found)
+    (sym (replace_lowers c.args.tick c.args.event.now.number c.args.named.copies.member c.args.named.copies.order c.args.named.copies.orig.id c.args.terms.now live s e)) (c.resize.ensures.reports live found)
 
 pub returns-then-lowers-clause-entered : goal.returns-then-lowers-clause-entered
 returns-then-lowers-clause-entered g c = λ live found.
@@ -44,7 +44,7 @@ returns-else-lowers-clause-state g c = λ live found.
     let same : c.deref.result.now ≡ c.args.parts.now.orders.items = search rules in
     let s : State = state_in g.E.Engine.buys g.E.Engine.sells c.args.parts.now in
     let e = tested c.args.tick c.args.terms.now c.args.named.found _ false c.deref.result.now c.args.parts.now.orders.items same c.lowers.ensures c.if-lowers.false _ live found in
-    ap (λ (o : Outcome). o.state) (replace_enters c.args.tick c.args.event.now.number c.args.named.room.member c.args.named.room.order c.args.named.room.orig.id c.args.terms.now live s e) ∙ c.reenter.ensures.state live found
+    ap (λ (o : Outcome). o.state) (replace_enters c.args.tick c.args.event.now.number c.args.named.copies.member c.args.named.copies.order c.args.named.copies.orig.id c.args.terms.now live s e) ∙ c.reenter.ensures.state live found
 
 pub returns-else-lowers-clause-reports : goal.returns-else-lowers-clause-reports
 returns-else-lowers-clause-reports g c = λ live found.
@@ -52,7 +52,7 @@ returns-else-lowers-clause-reports g c = λ live found.
     let s : State = state_in g.E.Engine.buys g.E.Engine.sells c.args.parts.now in
     let e = tested c.args.tick c.args.terms.now c.args.named.found _ false c.deref.result.now c.args.parts.now.orders.items same c.lowers.ensures c.if-lowers.false _ live found in
     subst (λ (o : Outcome). Reports c.args.event.now c.args.parts.now.log.list 1 o.notices c.reenter.new.parts.log.list c.reenter.result)
-    (sym (replace_enters c.args.tick c.args.event.now.number c.args.named.room.member c.args.named.room.order c.args.named.room.orig.id c.args.terms.now live s e)) (c.reenter.ensures.reports live found)
+    (sym (replace_enters c.args.tick c.args.event.now.number c.args.named.copies.member c.args.named.copies.order c.args.named.copies.orig.id c.args.terms.now live s e)) (c.reenter.ensures.reports live found)
 
 pub returns-else-lowers-clause-entered : goal.returns-else-lowers-clause-entered
 returns-else-lowers-clause-entered g c = λ live found.
