@@ -5,8 +5,8 @@ ghost use Rattle.fix_fields.specs.Content.{IsFront, without_check_sum};
 
 use venue_words::limits::{MAX_FRAME_BYTES, SOH};
 
-/// How many bytes BeginString takes.
-const BEGIN_STRING_SIZE: usize = 11;
+/// How many bytes BeginString(8) takes, with the SOH behind it.
+pub const BEGIN_STRING_SIZE: usize = 11;
 
 /// How many bytes stand before the content.
 #[tactic(auto, unfolding(crate::specs::Content::behind_first_end))]

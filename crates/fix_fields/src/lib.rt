@@ -1,4 +1,4 @@
-//! Reads the fields of a message and the values that stand in them, and lends the frame that they stand in.
+//! Reads the fields of a message and the values that stand in them, and has the frame whose content they are.
 #![tactic(auto)]
 
 pub mod field;
@@ -9,6 +9,6 @@ pub mod splitting;
 
 pub use field::{Field, FieldFault};
 pub use forms::{amount, number};
-pub use frame::Frame;
+pub use frame::{BEGIN_STRING_SIZE, Frame};
 pub use moments::{FIRST_MOMENT, LAST_MOMENT, moment};
 pub use splitting::fields;

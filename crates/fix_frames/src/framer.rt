@@ -4,13 +4,10 @@ ghost use Rattle.fix_frames.specs.Streams.{Skips, beginning};
 ghost use Rattle.fix_frames.specs.Search.{IsFound, EndsWithin};
 
 use crate::place::{Place, place_at};
-use fix_fields::Frame;
+use fix_fields::{BEGIN_STRING_SIZE, Frame};
 use std::alloc::Global;
 use std::marker::Model;
 use venue_words::NoMemory;
-
-/// How many bytes BeginString takes.
-const BEGIN_STRING_SIZE: usize = 11;
 
 /// What a framer answers.
 #[derive(Debug, Drop)]
