@@ -1,14 +1,14 @@
 -- What a link in memory gives.
-use Rattle.std.proofs.Common.{◌≡◌, ◌<◌, ◌≤◌, ◌+◌, ◌-◌, ◌++◌, ℕ, zero, suc, List, [], ◌∷◌, Some, None, Vec, drop, take, map, length, min, refl, sym, ◌∙◌, ap, subst, slice_get, arith, add-zero, add-one, length-drop, drop-cons, get_or, append-nil}
+use Rattle.std.proofs.Common.{◌≡◌, ◌<◌, ◌+◌, ◌-◌, ◌++◌, ℕ, List, [], ◌∷◌, Some, Vec, drop, take, map, length, refl, sym, ◌∙◌, slice_get, arith, add-one, length-drop, drop-cons, get_or, append-nil}
 use Rattle.std.proofs.lemmas.Option.{slice_get_within, get_or_from_slice_get}
 use Rattle.std.proofs.lemmas.List.{take-append-drop, drop-drop}
 use Rattle.std.proofs.lemmas.Grind.{common_steps}
 use Rattle.std.specs.declared.alloc.Global.{Global}
 use Rattle.io_edge.specs.declared.mem_link.LinkItem.{LinkItem}
-use Rattle.io_edge.specs.declared.mem_link.LinkItem.TheVariants.{Piece, Quiet, End}
-use Rattle.io_edge.specs.Links.{Answer, Gives, IsOver, before_rest}
-use Rattle.io_edge.specs.Links.Answer.{piece, quiet, ended}
-use Rattle.io_edge.specs.MemLinks.{heard, item_from, answer_in, items_from}
+use Rattle.io_edge.specs.declared.mem_link.LinkItem.TheVariants.{Piece, End}
+use Rattle.io_edge.specs.Links.{Answer, Gives, before_rest}
+use Rattle.io_edge.specs.Links.Answer.{piece, ended}
+use Rattle.io_edge.specs.MemLinks.{heard, answer_in, items_from}
 
 -- the items from a place on begin with the one there
 items_at : (items : List LinkItem) (k : ℕ) (item : LinkItem) → slice_get items k ≡ Some item

@@ -5,7 +5,7 @@ use Rattle.std.specs.List.{AllByRecursion}
 use Rattle.venue_words.specs.ListLaws.{all_weaken}
 use Rattle.venue_words.specs.declared.row.Row.{Row}
 use Rattle.limit_tree.specs.Order.{row_rank, IsOrdered, HasShortNumbers, IsFree, insert_row, is_held}
-use Rattle.limit_tree.proofs.InOrder.{all_front, all_back}
+use Rattle.limit_tree.proofs.InOrder.{all_back}
 
 or_second : (a b : Bool) → (a || b) ≡ false → b ≡ false
 or_second true b h = cc

@@ -1,9 +1,8 @@
 -- What a config file says, line by line.
-use Rattle.std.proofs.Common.{◌≡◌, ℕ, ◌+◌, ◌<◌, ◌≤◌, ◌⊎◌, Bool, true, false, List, [], ◌∷◌, ◌++◌, length, Result, Ok, Err, Option, Some, refl, sym, ap, ◌∙◌, subst, inl, inr, arith, nat_lt, cond, length-append, IsTrue}
+use Rattle.std.proofs.Common.{◌≡◌, ℕ, ◌+◌, ◌<◌, ◌≤◌, ◌⊎◌, Bool, true, false, List, [], ◌∷◌, ◌++◌, length, Result, Ok, Err, refl, ap, ◌∙◌, inl, inr, arith, nat_lt, cond, length-append}
 use Rattle.std.proofs.lemmas.Bool.Decides.{nat_tests}
 use Rattle.venue_words.specs.declared.config.Config.{Config}
 use Rattle.venue_words.specs.declared.limits.TheConstants.{MAX_LINE_BYTES}
-use Rattle.script_text.specs.Config.{unended, unwanted}
 use Rattle.script_text.specs.Header.{Step, header_line, with_header}
 use Rattle.script_text.specs.Lines.{cut, has_end}
 use Rattle.script_text.specs.LinesLaws.{cut_first, cut_whole, joined}
@@ -11,7 +10,6 @@ use Rattle.script_text.specs.Meets.{Meets}
 use Rattle.script_text.specs.declared.header.Header.{Header}
 use Rattle.script_text.specs.declared.fault.LineFault.{LineFault}
 use Rattle.script_text.specs.declared.fault.LineFault.TheVariants.{Bad, Limit, NoMemory}
-use Rattle.script_text.specs.declared.fault.LineCause.{LineCause}
 use Rattle.script_text.specs.declared.fault.LineCause.TheVariants.{NoEnd, BadHeader}
 use Rattle.script_text.specs.declared.fault.LimitCause.TheVariants.{Line, Bytes}
 use Rattle.line_reader.specs.Over.{over, over_fault, weighed}

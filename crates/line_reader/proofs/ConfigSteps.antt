@@ -1,5 +1,5 @@
 -- A line of a config file, as it is read.
-use Rattle.std.proofs.Common.{◌≡◌, ℕ, ◌+◌, ◌≤◌, ◌⊎◌, inl, inr, Bool, true, false, List, length, Result, Ok, Err, Option, Some, refl, sym, ap, ◌∙◌, subst, arith, nat_lt, cond, OnOk}
+use Rattle.std.proofs.Common.{◌≡◌, ℕ, ◌+◌, ◌≤◌, ◌⊎◌, inl, inr, Bool, true, false, List, length, Result, Ok, Err, Option, Some, sym, ap, ◌∙◌, subst, arith, nat_lt, cond, OnOk}
 use Rattle.script_text.specs.Header.{Step, header_line, with_header}
 use Rattle.script_text.specs.Meets.{Meets}
 use Rattle.script_text.specs.declared.header.Header.{Header}

@@ -1,5 +1,5 @@
 -- A line that is held is handed out.
-use Rattle.std.proofs.Common.{◌≡◌, ℕ, ◌+◌, ◌-◌, ◌<◌, ◌≤◌, List, ◌∷◌, ◌++◌, Option, length, take, drop, slice_range, arith, length-take, length-drop, nat_lt, refl, sym, ap, ◌∙◌, subst}
+use Rattle.std.proofs.Common.{◌≡◌, ℕ, ◌+◌, ◌-◌, ◌≤◌, List, Option, length, take, drop, slice_range, arith, length-take, nat_lt, refl, ap, subst}
 use Rattle.std.proofs.lemmas.List.{take-take, drop-take, drop-drop}
 use Rattle.line_reader.specs.Reading.{Reading, Reads, reading, holds}
 use Rattle.line_reader.specs.Seeking.{HoldsLine}

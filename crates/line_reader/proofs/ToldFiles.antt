@@ -1,5 +1,5 @@
 -- What is ahead in a file that was begun on a told shelf.
-use Rattle.std.proofs.Common.{◌≡◌, ℕ, List, [], Option, Some, None, IfSome, refl, ◌∙◌}
+use Rattle.std.proofs.Common.{◌≡◌, ℕ, List, Option, Some, None, IfSome, refl}
 use Rattle.io_edge.specs.Files.{Files, Opens, file_named}
 use Rattle.line_reader.specs.Reading.{Reading, before_lines, ahead}
 

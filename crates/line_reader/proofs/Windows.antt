@@ -1,5 +1,5 @@
 -- The held bytes before and after one more read.
-use Rattle.std.proofs.Common.{◌≡◌, ℕ, ◌+◌, ◌-◌, ◌<◌, ◌≤◌, ◌||◌, ◌==◌, Bool, true, List, [], ◌∷◌, zero, suc, Option, Ok, false, length, take, drop, slice_range, ◌++◌, arith, length-take, length-drop, length-append, refl, sym, ap, ◌∙◌}
+use Rattle.std.proofs.Common.{◌≡◌, ℕ, ◌+◌, ◌-◌, ◌<◌, ◌≤◌, ◌||◌, ◌==◌, Bool, true, List, [], ◌∷◌, zero, suc, Option, Ok, false, length, take, drop, slice_range, ◌++◌, arith, length-take, length-drop, length-append, refl, ap}
 use Rattle.std.proofs.Math.Seq.{take-add, take-append_seam}
 use Rattle.std.proofs.lemmas.List.{take-append-drop, take-take, take_all}
 use Rattle.std.specs.Io.KnownBytes.{Consumes, IsAtEnd}
@@ -7,7 +7,7 @@ use Rattle.venue_words.specs.declared.limits.TheConstants.{MAX_LINE_BYTES}
 use Rattle.io_edge.specs.declared.edge.Failed.{Failed}
 use Rattle.script_text.specs.Lines.{has_end}
 use Rattle.script_text.specs.LinesLaws.{clear_append}
-use Rattle.line_reader.specs.Reading.{Reads, BeginsTooLong}
+use Rattle.line_reader.specs.Reading.{BeginsTooLong}
 use Rattle.line_reader.specs.Seeking.{Refills}
 
 tail : (k : ℕ) (xs : List ℕ) → take (length xs - k) (drop k xs) ≡ drop k xs

@@ -1,5 +1,5 @@
 -- What a call of `next` says of what is ahead.
-use Rattle.std.proofs.Common.{◌≡◌, ℕ, ◌+◌, ◌<◌, Bool, List, ◌∷◌, ◌++◌, Option, Some, None, false, length, take, drop, arith, length-take, refl, sym, ◌∙◌, ap, subst, append_assoc}
+use Rattle.std.proofs.Common.{◌≡◌, ℕ, ◌+◌, ◌<◌, Bool, List, ◌∷◌, ◌++◌, Option, Some, None, false, length, take, drop, arith, length-take, sym, ◌∙◌, ap, subst, append_assoc}
 use Rattle.std.proofs.lemmas.List.{take-append-drop}
 use denote.Ref.{Bor}
 use Rattle.venue_words.specs.declared.limits.TheConstants.{MAX_LINE_BYTES}

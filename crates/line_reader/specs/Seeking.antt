@@ -1,6 +1,6 @@
 -- What is known of the held bytes once the next line was sought.
 use Rattle.std.specs.Prelude.{◌≡◌, ◌≤◌, ◌<◌, ◌+◌, ◌++◌, ◌∷◌, ℕ, List, Option, Result, Ok, Err, false, length, take, drop}
-use Rattle.std.specs.Io.KnownBytes.{Consumes, IsAtEnd, Keeps}
+use Rattle.std.specs.Io.KnownBytes.{IsAtEnd}
 use Rattle.venue_words.specs.declared.limits.TheConstants.{MAX_LINE_BYTES}
 use Rattle.script_text.specs.Lines.{has_end}
 use Rattle.line_reader.specs.Reading.{Reads, BeginsTooLong}

@@ -4,14 +4,14 @@ use Rattle.venue_words.specs.declared.row.Priced.{Priced}
 use Rattle.venue_words.specs.Price.{crosses}
 use Rattle.venue_words.specs.Priority.{in_priority}
 use Rattle.eager_meaning.specs.Walk.{walk, taken_from}
-use Rattle.venue_words.specs.FirstRow.{IsFirst, NoneActive}
+use Rattle.venue_words.specs.FirstRow.{IsFirst}
 use Rattle.venue_words.specs.Rows.{IsByEntry, IsAbsent, insert_by_entry, without_entry}
-use Rattle.venue_words.specs.FirstRowLaws.{first_of_priority, none_in_priority}
+use Rattle.venue_words.specs.FirstRowLaws.{first_of_priority}
 use Rattle.peg_groups.specs.ByEntry.{absent_without, insert-without}
 use Rattle.peg_groups.specs.Merge.{each_inserted}
 use Rattle.peg_groups.specs.declared.side_book.Taken.{Taken}
 use Rattle.peg_groups.specs.Side.{taken_row}
-use Rattle.match_core.specs.Aside.{taken_rows, put_in, AreOut, PassesAll, Gathered, IsNext, NoNext}
+use Rattle.match_core.specs.Aside.{taken_rows, put_in, AreOut, PassesAll, Gathered, IsNext}
 use Rattle.std.specs.List.{AllByRecursion}
 
 pub walk_none : (t : Priced) (left : ℕ) → walk t left [] ≡ []

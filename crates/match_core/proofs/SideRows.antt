@@ -20,7 +20,7 @@ use Rattle.eager_meaning.specs.Walk.{total_of}
 use Rattle.eager_meaning.specs.Entering.{entered}
 use Rattle.eager_meaning.specs.Showing.{row_of_order}
 use Rattle.peg_groups.specs.Merge.{below_or_not}
-use Rattle.peg_groups.specs.Side.{SideState, IsLaterThan, IsHeldAt, priced_at}
+use Rattle.peg_groups.specs.Side.{SideState, IsHeldAt, priced_at}
 use Rattle.match_core.specs.Aside.{HasLeaves}
 use Rattle.match_core.specs.BothSides.{Rests, requoted_rows}
 use Rattle.match_core.specs.Rooms.{IsReady}

@@ -1,18 +1,14 @@
 -- What the recheck needs: whether a taker crosses any row, and its own side after it traded.
-use Rattle.std.proofs.Common.{◌≡◌, ℕ, ◌+◌, nat_lt, nat_le, Bool, true, false, ◌||◌, cond, List, [], ◌∷◌, ◌++◌, length, inl, inr, map, Option, Some, None, refl, ap, sym, ◌∙◌, arith}
+use Rattle.std.proofs.Common.{◌≡◌, ℕ, ◌+◌, nat_lt, Bool, true, false, ◌||◌, cond, List, [], ◌∷◌, ◌++◌, length, inl, inr, map, refl, ap, sym, ◌∙◌, arith}
 use Rattle.std.proofs.lemmas.Bool.{ne_eqb, eq-eqb, lt-ltb, le-ltb}
-use Rattle.std.proofs.lemmas.Bool.Decides.{nat_tests}
-use Rattle.venue_words.specs.declared.price.TheConstants.{PRICE_END}
 use Rattle.venue_words.specs.declared.row.Priced.{Priced}
-use Rattle.venue_words.specs.Price.{crosses, values_cross}
-use Rattle.venue_words.specs.Priority.{before, is_ahead_if_active, is_ahead}
+use Rattle.venue_words.specs.Price.{crosses}
 use Rattle.eager_meaning.specs.Recheck.{Sides, crosses_any, meet, sweep}
 use Rattle.eager_meaning.specs.Matching.{row_after, shares_of, rows_after, unfilled, takes_of, fills_of}
 use Rattle.eager_meaning.specs.Walk.{total_of}
 use Rattle.eager_meaning.specs.declared.trade.Fill.{Fill}
 use Rattle.std.specs.List.{AllByRecursion}
 use Rattle.venue_words.specs.Rows.{IsByEntry, IsAbsent, insert_by_entry}
-use Rattle.venue_words.specs.FirstRow.{IsFirst, NoneActive}
 use Rattle.venue_words.specs.ListLaws.{all_weaken}
 use Rattle.std.specs.Prelude.{not, ◌==◌}
 use Rattle.std.specs.List.{list_any}

@@ -1,5 +1,5 @@
 -- What an order asks of a book can be submitted.
-use Rattle.std.proofs.Common.{◌≡◌, ◌<◌, ◌==◌, Bool, List, [], ◌∷◌, Option, None, Some, Ok, true, false, length, refl, arith, subst}
+use Rattle.std.proofs.Common.{◌≡◌, ◌<◌, Bool, List, [], ◌∷◌, Option, None, Some, Ok, true, false, length, refl, arith, subst}
 use Rattle.std.specs.Prelude.{ℕ, ℤ, nat_lt, ◌&&◌, cond, unwrap_or, bytes_eq}
 use Rattle.std.specs.Option.{option_map_or}
 use Rattle.std.proofs.lemmas.Bool.{lt-ltb}

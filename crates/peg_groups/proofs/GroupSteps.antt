@@ -1,5 +1,5 @@
 -- A side of groups, when one group changes.
-use Rattle.std.proofs.Common.{◌≡◌, ◌≢◌, ◌⊎◌, ℕ, zero, suc, ◌<◌, ◌≤◌, Bool, true, false, cond, List, [], ◌∷◌, length, Option, Some, None, refl, ap, sym, ◌∙◌, subst, arith, inl, inr, slice_get}
+use Rattle.std.proofs.Common.{◌≡◌, ℕ, zero, suc, true, false, cond, List, [], ◌∷◌, Some, refl, ap, sym, ◌∙◌, inl, inr, slice_get}
 use Rattle.indexmap.specs.IndexMap.{set_value_at}
 use Rattle.venue_words.specs.declared.price.Best.{Best}
 use Rattle.venue_words.specs.declared.row.Key.{Key}
@@ -15,7 +15,6 @@ use Rattle.peg_groups.specs.Side.{Standing}
 use Rattle.peg_groups.specs.Group.{priced_in}
 use Rattle.peg_groups.specs.Groups.{merged, rows_of, AreApart, EachGroup, IsRowOf, IsGroup, AreGroups, HasMoves, FitsGroup, with_rows}
 use Rattle.peg_groups.specs.declared.group.Group.{Group}
-use Rattle.peg_groups.specs.Merge.{each_insert, each_inserted}
 use Rattle.peg_groups.proofs.Merged.{all_insert, all_without, merged_each, merged_insert, merged_other, by_entry_merged, merged_without_other, merged_without, apart_kept, apart_insert, apart_other, apart_without, row_of_merged, not_held}
 
 -- the group with a number

@@ -11,7 +11,7 @@ use Rattle.clap.specs.Facts.{Entry}
 use Rattle.clap.specs.Matches.{raw_values, matched_of}
 use Rattle.clap.specs.Simple.{built, matches_of, entered, filled, with_index}
 use Rattle.clap.specs.Walk.{Walk, Waiting, all_of, finished, row_of, rows_of, settled, values_or_missing}
-use Rattle.clap.specs.Faults.{fault_of, is_simple_and_free, settle_fault, defaults_fault, entered_fault, check_fault, values_fault}
+use Rattle.clap.specs.Faults.{fault_of, settle_fault, defaults_fault, entered_fault, check_fault, values_fault}
 use Rattle.clap.specs.Kinds.{Kinds, values_kinds, or_else, range_kinds}
 use Rattle.clap.specs.declared.builder.value_parser.ValueParser.TheVariants as vp
 use Rattle.clap.specs.declared.parser.matches.Found.{Found}

@@ -1,4 +1,4 @@
-use Rattle.std.proofs.Common.{◌≡◌, Ok, Err, arith, sym, ◌∙◌, ap, subst}
+use Rattle.std.proofs.Common.{Ok, arith, sym, ◌∙◌, ap, subst}
 use Rattle.line_reader.specs.ConfigFile.{IsMeant}
 use Rattle.line_reader.specs.Reading.{Reading}
 use Rattle.line_reader.specs.NextLaws.{gives_line, gives_end, gives_long}

@@ -1,4 +1,4 @@
-use Rattle.std.proofs.Common.{◌≡◌, List, ℕ, Option, refl, sym, ◌∙◌, ap, subst, nat_lt, slice_range}
+use Rattle.std.proofs.Common.{◌≡◌, List, ℕ, refl, sym, ◌∙◌, ap, subst, slice_range}
 use Rattle.venue_words.specs.Causes.{Rose}
 use Rattle.line_reader.specs.Reading.{Reading, Reads, reading, holds}
 use Rattle.line_reader.specs.Seeking.{HoldsLine}
