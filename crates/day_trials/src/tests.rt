@@ -42,6 +42,21 @@ struct Outcome {
     err: Vec<u8>,
 }
 
+impl Outcome {
+    /// Whether the day ended so, with this exit and this text, and left this journal.
+    fn ended(&self, status: DayStatus, exit: u8, told: &str, journal: &[u8]) -> bool {
+        self.status == status
+            && exit_code(self.status) == exit
+            && self.err.as_slice() == told.as_bytes()
+            && self.journal.as_slice() == journal
+    }
+
+    /// Whether the day ended well, and left this journal.
+    fn is_done(&self, journal: &[u8]) -> bool {
+        self.status == DayStatus::Done && self.journal.as_slice() == journal
+    }
+}
+
 fn counted<H: Shelf, D: Disk, K: Sink, E: Sink, L: Ledger>(
     alloc: Global,
     words: &[String],
@@ -114,26 +129,52 @@ fn joined(alloc: Global, lines: &[Bytes]) -> Result<Vec<u8>, Fail> {
     Ok(text)
 }
 
+/// Whether the header, worked over this journal, leaves its own.
+fn leaves_the_header(alloc: Global, journal: &[u8]) -> Result<bool, Fail> {
+    Ok(run(alloc, HEADER.as_bytes(), journal, 0)?.is_done(&HEADER_JOURNAL))
+}
+
+/// Whether a day comes to the same over its own journal, which holds its lines.
+fn is_the_same_again(alloc: Global) -> Result<bool, Fail> {
+    let whole = run(alloc, TRADE.as_bytes(), &[], 0)?;
+    let again = run(alloc, TRADE.as_bytes(), &whole.journal, 0)?;
+    let text = text_of(alloc, &whole.journal)?;
+    Ok(
+        whole.is_done(&again.journal)
+            && again.is_done(&whole.journal)
+            && again.out.as_slice() == whole.out.as_slice()
+            && text.as_slice() == TRADE.as_bytes(),
+    )
+}
+
 #[test]
 fn a_day_goes_on_from_its_journal(rt: HostRuntime) -> Result<(), Fail> {
     let alloc = rt.alloc();
-    let first = run(alloc, HEADER.as_bytes(), &[], 0)?;
-    assert!(rt; first.status == DayStatus::Done);
-    assert_eq!(rt; first.journal.as_slice(), HEADER_JOURNAL.as_slice());
-    let again = run(alloc, HEADER.as_bytes(), &HEADER_JOURNAL, 0)?;
-    assert!(rt; again.status == DayStatus::Done);
-    assert_eq!(rt; again.journal.as_slice(), HEADER_JOURNAL.as_slice());
-    let whole = run(alloc, TRADE.as_bytes(), &[], 0)?;
-    assert!(rt; whole.status == DayStatus::Done);
-    let twice = run(alloc, TRADE.as_bytes(), &whole.journal, 0)?;
-    assert!(rt; twice.status == DayStatus::Done);
-    assert_eq!(rt; twice.out.as_slice(), whole.out.as_slice());
-    assert_eq!(rt; twice.journal.as_slice(), whole.journal.as_slice());
-    assert_eq!(rt;
-        text_of(alloc, &whole.journal)?.as_slice(),
-        TRADE.as_bytes()
-    );
+    assert!(rt; leaves_the_header(alloc, &[])?);
+    assert!(rt; leaves_the_header(alloc, &HEADER_JOURNAL)?);
+    assert!(rt; is_the_same_again(alloc)?);
     Ok(())
+}
+
+/// Whether a day whose disk fails at this call has each line whose output it put in its journal, and comes from there to what
+/// the whole day comes to.
+fn goes_on(alloc: Global, whole: &Outcome, fail: u64) -> Result<bool, Fail> {
+    let broken = run(alloc, TRADE.as_bytes(), &[], fail)?;
+    let text = text_of(alloc, &broken.journal)?;
+    let kept = run(alloc, &text, &[], 0)?;
+    let after = run(alloc, TRADE.as_bytes(), &broken.journal, 0)?;
+    let status = if fail < 50 {
+        DayStatus::DiskFault
+    } else {
+        DayStatus::Done
+    };
+    Ok(
+        broken.status == status
+            && TRADE.as_bytes().starts_with(&text)
+            && kept.out.as_slice().starts_with(&broken.out)
+            && after.is_done(&whole.journal)
+            && after.out.as_slice() == whole.out.as_slice(),
+    )
 }
 
 #[test]
@@ -141,28 +182,7 @@ fn a_line_whose_output_was_put_is_in_the_journal(rt: HostRuntime) -> Result<(), 
     let alloc = rt.alloc();
     let whole = run(alloc, TRADE.as_bytes(), &[], 0)?;
     for fail in 1..52_u64 {
-        let broken = run(alloc, TRADE.as_bytes(), &[], fail)?;
-        assert!(rt;
-            broken.status
-                == (if fail < 50 {
-                    DayStatus::DiskFault
-                } else {
-                    DayStatus::Done
-                }),
-            "{fail}"
-        );
-        let text = text_of(alloc, &broken.journal)?;
-        assert!(rt; TRADE.as_bytes().starts_with(&text), "{fail}");
-        let kept = run(alloc, &text, &[], 0)?;
-        assert!(rt; kept.out.as_slice().starts_with(&broken.out), "{fail}");
-        let after = run(alloc, TRADE.as_bytes(), &broken.journal, 0)?;
-        assert!(rt; after.status == DayStatus::Done, "{fail}");
-        assert_eq!(rt; after.out.as_slice(), whole.out.as_slice(), "{fail}");
-        assert_eq!(rt;
-            after.journal.as_slice(),
-            whole.journal.as_slice(),
-            "{fail}"
-        );
+        assert!(rt; goes_on(alloc, &whole, fail)?, "{fail}");
     }
     Ok(())
 }
@@ -177,16 +197,19 @@ struct Case {
     kept: &'static str,
 }
 
+/// Whether a day of this script ends as the case says.
+fn ends_so(alloc: Global, case: &Case) -> Result<bool, Fail> {
+    let ended = run(alloc, case.script.as_bytes(), &HEADER_JOURNAL, 0)?;
+    let kept = text_of(alloc, &ended.journal)?;
+    Ok(
+        ended.ended(case.status, case.exit, case.told, &ended.journal)
+            && kept.as_slice() == case.kept.as_bytes(),
+    )
+}
+
 fn check(rt: &impl Abort, alloc: Global, cases: &[Case]) -> Result<(), Fail> {
     for case in cases {
-        let ended = run(alloc, case.script.as_bytes(), &HEADER_JOURNAL, 0)?;
-        assert!(rt; ended.status == case.status, "{}", case.script);
-        assert_eq!(rt; ended.err.as_slice(), case.told.as_bytes());
-        assert_eq!(rt; exit_code(ended.status), case.exit);
-        assert_eq!(rt;
-            text_of(alloc, &ended.journal)?.as_slice(),
-            case.kept.as_bytes()
-        );
+        assert!(rt; ends_so(alloc, case)?, "{}", case.script);
     }
     Ok(())
 }
@@ -246,23 +269,18 @@ fn a_line_that_passes_a_limit_is_not_kept(rt: HostRuntime) -> Result<(), Fail> {
     let alloc = rt.alloc();
     let mut script = HEADER.as_bytes().to_vec(alloc)?;
     script.extend_from_slice(&[b'T'; 16_385])?;
-    let long = run(alloc, &script, &HEADER_JOURNAL, 0)?;
     let limit = DayStatus::LimitLine {
         line: 3,
         which: LimitCause::Line,
     };
-    assert!(rt; long.status == limit);
-    assert_eq!(rt; exit_code(long.status), 4);
-    assert_eq!(rt; long.journal.as_slice(), HEADER_JOURNAL.as_slice());
-    let damaged = run(alloc, &script, &HEADER_JOURNAL[..43], 0)?;
-    assert!(rt; damaged.status == (DayStatus::Damaged { at: 11 }));
-    assert_eq!(rt;
-        damaged.err.as_slice(),
-        b"pegday: journal damaged at 11\n".as_slice()
-    );
-    assert_eq!(rt; exit_code(damaged.status), 11);
+    let told = "pegday: line 3: limit Line\n";
+    let long = run(alloc, &script, &HEADER_JOURNAL, 0)?;
+    assert!(rt; long.ended(limit, 4, told, &HEADER_JOURNAL));
+    let cut = &HEADER_JOURNAL[..43];
+    let told = "pegday: journal damaged at 11\n";
+    let damaged = run(alloc, &script, cut, 0)?;
+    assert!(rt; damaged.ended(DayStatus::Damaged { at: 11 }, 11, told, cut));
     let fault = run(alloc, &script, &[], 1)?;
-    assert_eq!(rt; fault.err.as_slice(), b"pegday: disk fault\n".as_slice());
-    assert_eq!(rt; exit_code(fault.status), 10);
+    assert!(rt; fault.ended(DayStatus::DiskFault, 10, "pegday: disk fault\n", &[]));
     Ok(())
 }

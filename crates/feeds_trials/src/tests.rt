@@ -30,6 +30,15 @@ struct Ran {
     err: MemSink,
 }
 
+impl Ran {
+    /// Whether the run ended so, and put and told this.
+    fn came_to(&self, status: FeedsStatus, out: &str, err: &str) -> bool {
+        self.status == status
+            && self.out.bytes() == out.as_bytes()
+            && self.err.bytes() == err.as_bytes()
+    }
+}
+
 /// The name of a feed's file.
 fn feed_name(alloc: Global, number: usize) -> Result<String, AllocError> {
     format!(in alloc; "feed{number}")

@@ -52,47 +52,74 @@ fn config_of(alloc: Global) -> Result<Config, NoMemory>
     }
 }
 
+/// A shelf whose file is this text, of which a read gives seven bytes at most, and whose call of this number fails; 0 is none.
+fn shelf_of(alloc: Global, text: Vec<u8>, fails: u64) -> Result<MemShelf, NoMemory> {
+    let mut files = Vec::new(alloc);
+    files.push((String::from_str(alloc, "q")?, text))?;
+    Ok(MemShelf::new(files, 7, vec![in alloc; fails]?))
+}
+
+/// A clock that stands at the moment of the config.
+fn clock_of(alloc: Global) -> Result<MemClock, NoMemory> {
+    Ok(MemClock::new(vec![in alloc; START]?))
+}
+
+/// How one connection ended, and whether A's desk is there behind it.
+#[derive(Drop)]
+struct Outcome {
+    end: LinkEnd,
+    is_back: bool,
+}
+
+impl Outcome {
+    /// Whether the connection ended so, and the desk is there.
+    fn is_back_at(&self, end: LinkEnd) -> bool {
+        self.end == end && self.is_back
+    }
+}
+
 /// Serves one connection over a venue that has taken the quote 150.10 to 150.14, with the desks of all members, or without A's.
 fn served<R: Wait>(
     rt: &R,
     alloc: Global,
     link: &mut MemLink,
     is_there: bool,
-) -> Result<(LinkEnd, bool), NoMemory> {
+) -> Result<Outcome, NoMemory> {
     let config = config_of(alloc)?;
+    let quote = Vec::from_slice(alloc, b"Q X N 150.10 150.14\n")?;
+    let mut shelf = shelf_of(alloc, quote, 0)?;
+    let mut clock = clock_of(alloc)?;
+    let mut desks = DeskTable::new(alloc, desks_of(alloc, &config)?)?;
+    if !is_there && desks.members() > 0 {
+        let _ = desks.take(0).is_some();
+    }
+    // What may fail stands above, so that a venue and its seats are dropped at one place.
     let (venue, seats) = make(alloc, HashSeed::fixed(), &config)?;
     let mut floor = Seated {
         rt,
         venue: &venue,
         seats,
     };
-    let mut files = Vec::new(alloc);
-    files.push((
-        String::from_str(alloc, "q")?,
-        Vec::from_slice(alloc, b"Q X N 150.10 150.14\n")?,
-    ))?;
-    let mut shelf = MemShelf::new(files, 7, Vec::new(alloc));
-    let mut clock = MemClock::new(vec![in alloc; START]?);
-    if serve_quotes(alloc, &config, &mut floor, &mut shelf, "q", &mut clock) != QuoteEnd::Done {
-        return Err(NoMemory);
-    }
-    let mut desks = DeskTable::new(alloc, desks_of(alloc, &config)?)?;
-    if !is_there && desks.members() > 0 {
-        let _ = desks.take(0).is_some();
-    }
+    let quoted = serve_quotes(alloc, &config, &mut floor, &mut shelf, "q", &mut clock);
     let end = serve_link(alloc, &config, &mut floor, &mut desks, link, &mut clock);
     let is_back = desks.members() > 0 && desks.take(0).is_some();
-    Ok((end, is_back))
+    match quoted {
+        QuoteEnd::Done => Ok(Outcome { end, is_back }),
+        _ => Err(NoMemory),
+    }
 }
 
 #[test]
 fn a_brokers_order_is_acknowledged(rt: HostRuntime) -> Result<(), Fail> {
     let alloc = rt.alloc();
     let mut link = broker(alloc, Vec::new(alloc))?;
-    let (end, is_back) = served(&rt, alloc, &mut link, true)?;
-    assert_eq!(rt; end, LinkEnd::PeerEnd);
-    assert!(rt; is_back);
-    assert!(rt; link.bytes().starts_with(ANSWERS));
+    let ended = served(&rt, alloc, &mut link, true)?;
+    let is_put = link.bytes().starts_with(ANSWERS);
+    assert!(rt;
+        ended.is_back_at(LinkEnd::PeerEnd) && is_put,
+        "{:?}",
+        ended.end
+    );
     Ok(())
 }
 
@@ -100,11 +127,19 @@ fn a_brokers_order_is_acknowledged(rt: HostRuntime) -> Result<(), Fail> {
 fn a_failed_put_ends_the_connection(rt: HostRuntime) -> Result<(), Fail> {
     let alloc = rt.alloc();
     let mut link = broker(alloc, vec![in alloc; 2]?)?;
-    let (end, is_back) = served(&rt, alloc, &mut link, true)?;
-    assert_eq!(rt; end, LinkEnd::LinkFault);
-    assert!(rt; is_back);
-    assert!(rt; link.bytes().is_empty());
+    let ended = served(&rt, alloc, &mut link, true)?;
+    let is_empty = link.bytes().is_empty();
+    assert!(rt;
+        ended.is_back_at(LinkEnd::LinkFault) && is_empty,
+        "{:?}",
+        ended.end
+    );
     Ok(())
+}
+
+/// Whether these bytes are a beginning of the answers, which end with a check sum.
+fn is_beginning(put: &[u8]) -> bool {
+    put.len() <= 90 + 221 && ANSWERS.starts_with(&put[..put.len().min(ANSWERS.len())])
 }
 
 #[test]
@@ -112,12 +147,13 @@ fn each_failing_call_leaves_a_prefix(rt: HostRuntime) -> Result<(), Fail> {
     let alloc = rt.alloc();
     for number in 1..6u64 {
         let mut link = broker(alloc, vec![in alloc; number]?)?;
-        let (end, is_back) = served(&rt, alloc, &mut link, true)?;
-        assert_eq!(rt; end, LinkEnd::LinkFault, "{number}");
-        assert!(rt; is_back);
-        let put = link.bytes();
-        assert!(rt; put.len() <= 90 + 221);
-        assert!(rt; ANSWERS.starts_with(&put[..put.len().min(ANSWERS.len())]));
+        let ended = served(&rt, alloc, &mut link, true)?;
+        let is_put = is_beginning(link.bytes());
+        assert!(rt;
+            ended.is_back_at(LinkEnd::LinkFault) && is_put,
+            "{number}: {:?}",
+            ended.end
+        );
     }
     Ok(())
 }
@@ -126,8 +162,8 @@ fn each_failing_call_leaves_a_prefix(rt: HostRuntime) -> Result<(), Fail> {
 fn a_second_connection_is_refused(rt: HostRuntime) -> Result<(), Fail> {
     let alloc = rt.alloc();
     let mut link = broker(alloc, Vec::new(alloc))?;
-    let (end, _) = served(&rt, alloc, &mut link, false)?;
-    assert_eq!(rt; end, LinkEnd::InUse);
-    assert!(rt; link.bytes().is_empty());
+    let ended = served(&rt, alloc, &mut link, false)?;
+    let is_empty = link.bytes().is_empty();
+    assert!(rt; ended.end == LinkEnd::InUse && is_empty, "{:?}", ended.end);
     Ok(())
 }

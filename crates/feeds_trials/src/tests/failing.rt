@@ -38,10 +38,26 @@ fn stored<R: Threads + Wait + Sync>(
 #[test]
 fn the_stored_run_is_listed(rt: HostRuntime) -> Result<(), Fail> {
     let ran = stored(&rt, rt.alloc(), (0, 0, 0))?;
-    assert!(rt; ran.status == FeedsStatus::Done);
-    assert_eq!(rt; ran.out.bytes(), LISTING.as_bytes());
-    assert_eq!(rt; ran.err.bytes(), b"".as_slice());
+    assert!(rt;
+        ran.came_to(FeedsStatus::Done, LISTING, ""),
+        "{:?}",
+        ran.status
+    );
     Ok(())
+}
+
+/// Whether a read that fails at this call puts nothing and is told, or not told where that fails too.
+fn puts_nothing<R: Threads + Wait + Sync>(
+    rt: &R,
+    alloc: Global,
+    call: u64,
+) -> Result<bool, AllocError> {
+    let told = stored(rt, alloc, (call, 0, 0))?;
+    let untold = stored(rt, alloc, (call, 0, 1))?;
+    Ok(
+        told.came_to(FeedsStatus::ReadFault, "", "pegvenue: read fault\n")
+            && untold.came_to(FeedsStatus::ReadFault, "", ""),
+    )
 }
 
 #[test]
@@ -49,55 +65,57 @@ fn each_failing_read_puts_nothing(rt: HostRuntime) -> Result<(), Fail> {
     // Each file is begun by one call, and the last pull of a file finds its end.
     let calls = CONFIG.len().div_ceil(PIECE) + FEED.len().div_ceil(PIECE) + 4;
     for call in 0..calls {
-        for told in [0u64, 1] {
-            let ran = stored(&rt, rt.alloc(), (call as u64 + 1, 0, told))?;
-            assert!(rt; ran.status == FeedsStatus::ReadFault, "at call {call}");
-            assert_eq!(rt; ran.out.bytes(), b"".as_slice());
-            let text = if told == 0 {
-                "pegvenue: read fault\n"
-            } else {
-                ""
-            };
-            assert_eq!(rt; ran.err.bytes(), text.as_bytes());
-        }
+        let is_so = puts_nothing(&rt, rt.alloc(), call as u64 + 1)?;
+        assert!(rt; is_so, "at call {call}");
     }
     let ran = stored(&rt, rt.alloc(), (calls as u64 + 1, 0, 0))?;
-    assert!(rt; ran.status == FeedsStatus::Done);
-    assert_eq!(rt; ran.out.bytes(), LISTING.as_bytes());
+    assert!(rt;
+        ran.came_to(FeedsStatus::Done, LISTING, ""),
+        "{:?}",
+        ran.status
+    );
     Ok(())
+}
+
+/// Whether a put that fails at this call leaves a beginning of the listing and is told, and whether there was such a call; none
+/// where it is otherwise.
+fn leaves_a_beginning<R: Threads + Wait + Sync>(
+    rt: &R,
+    alloc: Global,
+    call: u64,
+) -> Result<Option<bool>, AllocError> {
+    let ran = stored(rt, alloc, (0, call, 0))?;
+    let is_beginning = LISTING.as_bytes().starts_with(ran.out.bytes());
+    Ok(match ran.status {
+        FeedsStatus::Done if is_beginning => Some(false),
+        FeedsStatus::WriteFault
+            if is_beginning && ran.err.bytes() == b"pegvenue: write fault\n".as_slice() => {
+            Some(true)
+        }
+        _ => None,
+    })
 }
 
 #[test]
 fn each_failing_write_leaves_a_beginning(rt: HostRuntime) -> Result<(), Fail> {
-    let mut done = 0usize;
+    let mut was_last = false;
     for call in 1..9u64 {
-        let ran = stored(&rt, rt.alloc(), (0, call, 0))?;
-        assert!(rt; LISTING.as_bytes().starts_with(ran.out.bytes()));
-        match ran.status {
-            FeedsStatus::Done => done = done.saturating_add(1),
-            FeedsStatus::WriteFault => {
-                assert!(rt; done == 0);
-                assert_eq!(rt; ran.err.bytes(), b"pegvenue: write fault\n".as_slice());
-            }
-            other => panic!(rt; "{other:?}"),
-        }
+        let is_call = leaves_a_beginning(&rt, rt.alloc(), call)?.ok_or("no beginning")?;
+        assert!(rt; !(was_last && is_call), "at call {call}");
+        was_last = was_last || !is_call;
     }
-    assert!(rt; 0 < done);
+    assert!(rt; was_last);
     Ok(())
 }
 
 #[test]
 fn a_failed_text_makes_a_write_fault_of_a_refused_line(rt: HostRuntime) -> Result<(), Fail> {
-    let ran = run_paced(
-        &rt,
-        rt.alloc(),
-        &Unpaced,
-        (CONFIG, &["\n"]),
-        PIECE,
-        (0, 0, 1),
-    )?;
-    assert!(rt; ran.status == FeedsStatus::WriteFault);
-    assert_eq!(rt; ran.out.bytes(), b"".as_slice());
-    assert_eq!(rt; ran.err.bytes(), b"".as_slice());
+    let fails = (0, 0, 1);
+    let ran = run_paced(&rt, rt.alloc(), &Unpaced, (CONFIG, &["\n"]), PIECE, fails)?;
+    assert!(rt;
+        ran.came_to(FeedsStatus::WriteFault, "", ""),
+        "{:?}",
+        ran.status
+    );
     Ok(())
 }

@@ -71,8 +71,11 @@ fn a_full_journal_holds_both_feeds_in_their_order(rt: HostRuntime) -> Result<(),
 #[test]
 fn one_command_too_many_puts_nothing(rt: HostRuntime) -> Result<(), Fail> {
     let ran = run_both(&rt, rt.alloc(), 199)?;
-    assert!(rt; ran.status == FeedsStatus::Full { symbol: 0 });
-    assert_eq!(rt; ran.out.bytes(), b"".as_slice());
-    assert_eq!(rt; ran.err.bytes(), b"pegvenue: full X\n".as_slice());
+    let full = FeedsStatus::Full { symbol: 0 };
+    assert!(rt;
+        ran.came_to(full, "", "pegvenue: full X\n"),
+        "{:?}",
+        ran.status
+    );
     Ok(())
 }

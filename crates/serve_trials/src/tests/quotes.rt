@@ -1,6 +1,5 @@
 //! How files of quotes end.
-use super::{START, config_of};
-use io_edge::{MemClock, MemShelf};
+use super::{clock_of, config_of, shelf_of};
 use script_text::LineCause;
 use serve_core::{QuoteEnd, serve_quotes};
 use std::alloc::Global;
@@ -21,21 +20,19 @@ fn ended<R: Wait>(
     fails: u64,
 ) -> Result<QuoteEnd, NoMemory> {
     let config = config_of(alloc)?;
+    let mut bytes = Vec::new(alloc);
+    for _ in 0..quotes {
+        bytes.extend_from_slice(QUOTE)?;
+    }
+    bytes.extend_from_slice(text)?;
+    let mut shelf = shelf_of(alloc, bytes, fails)?;
+    let mut clock = clock_of(alloc)?;
     let (venue, seats) = make(alloc, HashSeed::fixed(), &config)?;
     let mut floor = Seated {
         rt,
         venue: &venue,
         seats,
     };
-    let mut bytes = Vec::new(alloc);
-    for _ in 0..quotes {
-        bytes.extend_from_slice(QUOTE)?;
-    }
-    bytes.extend_from_slice(text)?;
-    let mut files = Vec::new(alloc);
-    files.push((String::from_str(alloc, "q")?, bytes))?;
-    let mut shelf = MemShelf::new(files, 7, vec![in alloc; fails]?);
-    let mut clock = MemClock::new(vec![in alloc; START]?);
     Ok(serve_quotes(alloc, &config, &mut floor, &mut shelf, "q", &mut clock))
 }
 
