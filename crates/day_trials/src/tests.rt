@@ -1,5 +1,6 @@
 //! Days over disks, files and sinks in memory.
-ghost use Rattle.std.specs.Prelude.{◌≡◌, false};
+ghost use Rattle.std.specs.Prelude.{◌≡◌, false, IfOk, None};
+ghost use Rattle.day_journal.specs.MemDisks.{name_in};
 
 use day_core::DayStatus;
 use day_core::day::day;
@@ -80,17 +81,44 @@ fn words(alloc: Global) -> Result<Vec<String>, AllocError> {
     Ok(words)
 }
 
-/// Works a script over a journal of these bytes, on a disk that fails at one call.
-fn run(alloc: Global, script: &[u8], journal: &[u8], fail: u64) -> Result<Outcome, Fail> {
-    let mut fails = Vec::new(alloc);
-    fails.push(fail)?;
-    let disk = MemDisk::new(journal.to_vec(alloc)?, fails);
+/// A disk with a journal of these bytes, which fails at one call.
+fn disk_of(alloc: Global, journal: &[u8], fail: u64) -> Result<MemDisk, AllocError>
+    ensures { IfOk result (λ disk. name_in disk ≡ None) }
+{
+    let fails = vec![in alloc; fail]?;
+    Ok(MemDisk::new(journal.to_vec(alloc)?, fails))
+}
+
+/// A shelf with a script.
+fn shelf_of(alloc: Global, script: &[u8]) -> Result<MemShelf, AllocError> {
     let mut files = Vec::new(alloc);
     files.push((String::from_str(alloc, "s")?, script.to_vec(alloc)?))?;
-    let mut shelf = MemShelf::new(files, 7, Vec::new(alloc));
+    Ok(MemShelf::new(files, 7, Vec::new(alloc)))
+}
+
+/// How a day ended that left these.
+fn outcome_of(
+    alloc: Global,
+    status: DayStatus,
+    disk: &MemDisk,
+    out: &MemSink,
+    err: &MemSink,
+) -> Result<Outcome, Fail> {
+    Ok(Outcome {
+        status,
+        journal: disk.bytes().to_vec(alloc)?,
+        out: out.bytes().to_vec(alloc)?,
+        err: err.bytes().to_vec(alloc)?,
+    })
+}
+
+/// Works a script over a journal of these bytes, on a disk that fails at one call.
+fn run(alloc: Global, script: &[u8], journal: &[u8], fail: u64) -> Result<Outcome, Fail> {
+    let words = words(alloc)?;
+    let mut shelf = shelf_of(alloc, script)?;
+    let disk = disk_of(alloc, journal, fail)?;
     let mut out = MemSink::new(alloc, Vec::new(alloc));
     let mut err = MemSink::new(alloc, Vec::new(alloc));
-    let words = words(alloc)?;
     let (status, disk) = counted::<MemShelf, MemDisk, MemSink, MemSink, Brand>(
         alloc,
         words.as_slice(),
@@ -100,12 +128,13 @@ fn run(alloc: Global, script: &[u8], journal: &[u8], fail: u64) -> Result<Outcom
         &mut err,
         Blank::new(1),
     );
-    Ok(Outcome {
-        status,
-        journal: disk.bytes().to_vec(alloc)?,
-        out: out.bytes().to_vec(alloc)?,
-        err: err.bytes().to_vec(alloc)?,
-    })
+    let outcome = outcome_of(alloc, status, &disk, &out, &err);
+    drop(disk);
+    drop(err);
+    drop(out);
+    drop(shelf);
+    drop(words);
+    outcome
 }
 
 /// The lines of a journal of these bytes, each with an LF.

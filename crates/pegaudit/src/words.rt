@@ -22,103 +22,125 @@ pub enum Question<'a> {
     Order(AuditFiles<'a>, &'a str, u32),
 }
 
-/// A subcommand that takes a config and a listing.
-fn of_files<'a>(
-    alloc: Global,
-    name: &'static str,
-    about: &'static str,
-) -> Result<Command<'a>, AllocError> {
-    let config = Arg::new(alloc, "CONFIG")
-        .required(true)
-        .help("The config that the venue ran with");
-    let listing = Arg::new(alloc, "LISTING")
-        .required(true)
-        .help("The listing that the venue put, as it is");
-    let command = Command::new(alloc, name)
-        .about(about)
-        .arg(config)?
-        .arg(listing)?;
-    Ok(command)
+/// The words behind a subcommand's name.
+#[derive(Clone, Copy)]
+enum Words {
+    /// A config and a listing.
+    Files,
+    /// These, and feeds.
+    Feeds,
+    /// These, and a symbol.
+    Symbol,
+    /// These, a symbol, and the number of an event.
+    Event,
+    /// A script.
+    Script,
 }
 
-fn symbol_word<'a>(alloc: Global) -> Arg<'a> {
-    Arg::new(alloc, "SYMBOL")
-        .required(true)
-        .help("A symbol of the config")
-}
-
-/// A subcommand that takes a symbol and the number of an event, too.
-fn of_event<'a>(
-    alloc: Global,
+/// A subcommand: its name, what it does, and its words.
+#[derive(Clone, Copy)]
+struct Subcommand {
     name: &'static str,
     about: &'static str,
+    words: Words,
+}
+
+/// What the program can do.
+const SUBCOMMANDS: &[Subcommand] = &[
+    Subcommand {
+        name: "verify",
+        about: "Says whether a listing is what the market's rules make of its own events, or the first line that differs",
+        words: Words::Feeds,
+    },
+    Subcommand {
+        name: "trades",
+        about: "Verifies a listing, and puts each trade with its parties and the national quote",
+        words: Words::Files,
+    },
+    Subcommand {
+        name: "summary",
+        about: "Verifies a listing, and puts what each member did in each symbol: events, trades, shares, what rests, what was rejected by which rule",
+        words: Words::Files,
+    },
+    Subcommand {
+        name: "chart",
+        about: "Verifies a listing, and puts a picture of a symbol's day, as SVG: quotes, trades and the shares that rest",
+        words: Words::Symbol,
+    },
+    Subcommand {
+        name: "book",
+        about: "Verifies a listing, and puts both sides of a symbol's book behind an event, as they queue",
+        words: Words::Event,
+    },
+    Subcommand {
+        name: "order",
+        about: "Verifies a listing, and puts the life of the order that entered at an event: its prices and times, its place, its trades, its end",
+        words: Words::Event,
+    },
+    Subcommand {
+        name: "explain",
+        about: "Tells what each line of a script does, what is sent behind it, and why nothing is",
+        words: Words::Script,
+    },
+];
+
+/// A word that has to be there.
+fn word<'a>(alloc: Global, name: &'static str, help: &'static str) -> Arg<'a> {
+    Arg::new(alloc, name).required(true).help(help)
+}
+
+/// A subcommand that takes a config and a listing, too.
+fn with_files<'a>(alloc: Global, command: Command<'a>) -> Result<Command<'a>, AllocError> {
+    command
+        .arg(word(alloc, "CONFIG", "The config that the venue ran with"))?
+        .arg(word(alloc, "LISTING", "The listing that the venue put, as it is"))
+}
+
+/// A subcommand that takes a symbol behind its files, too.
+fn with_symbol<'a>(alloc: Global, command: Command<'a>) -> Result<Command<'a>, AllocError> {
+    with_files(alloc, command)?.arg(word(alloc, "SYMBOL", "A symbol of the config"))
+}
+
+/// A subcommand that takes these words, too.
+fn with_words<'a>(
+    alloc: Global,
+    command: Command<'a>,
+    words: Words,
 ) -> Result<Command<'a>, AllocError> {
-    let event = Arg::new(alloc, "EVENT")
-        .required(true)
-        .help("The number of one of the symbol's events, from 1");
-    let command = of_files(alloc, name, about)?
-        .arg(symbol_word(alloc))?
-        .arg(event)?;
-    Ok(command)
+    match words {
+        Words::Files => with_files(alloc, command),
+        Words::Feeds => with_files(alloc, command)?.arg(
+            Arg::new(alloc, "FEED").num_args(0..).help(
+                "The feeds of the day, as pegvenue had them: whether the listing's events are what they ask",
+            ),
+        ),
+        Words::Symbol => with_symbol(alloc, command),
+        Words::Event => with_symbol(alloc, command)?.arg(word(
+            alloc,
+            "EVENT",
+            "The number of one of the symbol's events, from 1",
+        )),
+        Words::Script => command.arg(word(alloc, "SCRIPT", "A script, as pegreplay reads it")),
+    }
+}
+
+/// A subcommand as the command line's reader takes it.
+fn command_of<'a>(alloc: Global, asked: &Subcommand) -> Result<Command<'a>, AllocError> {
+    let command = Command::new(alloc, asked.name).about(asked.about);
+    with_words(alloc, command, asked.words)
 }
 
 /// What the program can do.
 pub fn program<'a>(alloc: Global) -> Result<Command<'a>, AllocError> {
-    let verify = of_files(
-        alloc,
-        "verify",
-        "Says whether a listing is what the market's rules make of its own events, or the first line that differs",
-    )?
-    .arg(
-        Arg::new(alloc, "FEED").num_args(0..).help(
-            "The feeds of the day, as pegvenue had them: whether the listing's events are what they ask",
-        ),
-    )?;
-    let trades = of_files(
-        alloc,
-        "trades",
-        "Verifies a listing, and puts each trade with its parties and the national quote",
-    )?;
-    let summary = of_files(
-        alloc,
-        "summary",
-        "Verifies a listing, and puts what each member did in each symbol: events, trades, shares, what rests, what was rejected by which rule",
-    )?;
-    let chart = of_files(
-        alloc,
-        "chart",
-        "Verifies a listing, and puts a picture of a symbol's day, as SVG: quotes, trades and the shares that rest",
-    )?
-    .arg(symbol_word(alloc))?;
-    let book = of_event(
-        alloc,
-        "book",
-        "Verifies a listing, and puts both sides of a symbol's book behind an event, as they queue",
-    )?;
-    let order = of_event(
-        alloc,
-        "order",
-        "Verifies a listing, and puts the life of the order that entered at an event: its prices and times, its place, its trades, its end",
-    )?;
-    let script = Arg::new(alloc, "SCRIPT")
-        .required(true)
-        .help("A script, as pegreplay reads it");
-    let explain = Command::new(alloc, "explain")
-        .about("Tells what each line of a script does, what is sent behind it, and why nothing is")
-        .arg(script)?;
-    let program = Command::new(alloc, "pegaudit")
+    let mut program = Command::new(alloc, "pegaudit")
         .no_binary_name(true)
         .version("0.1.0")
         .about("Audits a venue's day from its listing")
         .subcommand_required(true)
-        .arg_required_else_help(true)
-        .subcommand(verify)?
-        .subcommand(trades)?
-        .subcommand(summary)?
-        .subcommand(chart)?
-        .subcommand(book)?
-        .subcommand(order)?
-        .subcommand(explain)?;
+        .arg_required_else_help(true);
+    for asked in SUBCOMMANDS {
+        program = program.subcommand(command_of(alloc, asked)?)?;
+    }
     Ok(program)
 }
 

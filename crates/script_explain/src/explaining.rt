@@ -160,6 +160,35 @@ impl Explainer {
     }
 }
 
+/// Tells of each line of a script, and says how it ended.
+fn explain_lines<K: Sink, L: Ledger>(
+    explainer: &mut Explainer,
+    script: &[u8],
+    out: &mut K,
+    steps: &mut Steps<L>,
+) -> Status
+    ensures later { K.faults out.old ≤ K.faults out.new }
+    ensures write { result ≡ Status.WriteFault → Rose (K.faults out.old) (K.faults out.new) }
+{
+    let mut rest = script;
+    'lines: for _ in 0..script.len() {
+        let Some((line, more)) = cut_line(rest) else {
+            break 'lines;
+        };
+        if let Err(status) = explainer.line(line, out, steps) {
+            return status;
+        }
+        rest = more;
+    }
+    if explainer.is_in_body() && rest.is_empty() {
+        return Status::Done;
+    }
+    Status::BadLine {
+        line: explainer.lines.saturating_add(1),
+        cause: LineCause::NoEnd,
+    }
+}
+
 /// Tells of each line of a script: what it is, what a member's session makes of each message, what is sent behind it, and which rule
 /// an order broke. A script of more bytes than one may have is refused at its first line. Nothing is promised of the text.
 pub fn explain<K: Sink, L: Ledger>(
@@ -178,21 +207,7 @@ pub fn explain<K: Sink, L: Ledger>(
         };
     }
     let mut explainer = Explainer::new(alloc);
-    let mut rest = script;
-    'lines: for _ in 0..script.len() {
-        let Some((line, more)) = cut_line(rest) else {
-            break 'lines;
-        };
-        if let Err(status) = explainer.line(line, out, steps) {
-            return status;
-        }
-        rest = more;
-    }
-    if explainer.is_in_body() && rest.is_empty() {
-        return Status::Done;
-    }
-    Status::BadLine {
-        line: explainer.lines.saturating_add(1),
-        cause: LineCause::NoEnd,
-    }
+    let status = explain_lines(&mut explainer, script, out, steps);
+    drop(explainer);
+    status
 }

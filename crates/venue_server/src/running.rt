@@ -26,7 +26,7 @@ use member_gate::{DeskCell, DeskTable, desks_of};
 use program_words::WordFault;
 use serve_core::status::{status_of_quotes, status_of_setup};
 use serve_core::{QuoteEnd, ServePlan, ServeStatus, exit_code};
-use socket_edge::bells_of;
+use socket_edge::{Inbox, bells_of};
 use std::alloc::Global;
 use std::net::{Net, TcpListener, TcpStream};
 use std::rt;
@@ -60,8 +60,35 @@ fn desk_cell(alloc: Global, config: &Config) -> Result<DeskCell, NoMemory>
     Ok(DeskCell::new(DeskTable::new(alloc, desks)?))
 }
 
-/// Serves all connections of a venue and the drop session, and submits the quotes, through seats that are split off these and
-/// joined again.
+/// Serves a connection for each inbox but the last, which is the drop session's, and submits the quotes, through seats that are
+/// split off these and joined again.
+fn serve_inboxes<R: Threads + Wait + Sync + rt::Clock, V: Held + Drop + Send>(
+    shared: &Shared<'_, R>,
+    venue: &Venue<V>,
+    seats: &mut Seats,
+    inboxes: Vec<Inbox>,
+    session: Option<CopySession>,
+) -> Result<Outcome, NoMemory>
+    requires config { IsConfig shared.now.config.now }
+    requires desks { shared.now.cell.now ≡ length shared.now.config.now.members }
+    requires few { length inboxes.items ≤ 65 }
+    requires seats { HasSeats venue.now whole seats.old }
+    requires setup { setup_in venue.now ≡ setup_of shared.now.config.now }
+    requires members { IfSome session (λ session. AreConfigured session.desk.members shared.now.config.now) }
+    ensures { OnOk result (HasSeats venue.now whole seats.new) }
+{
+    let rt = shared.rt;
+    let (jobs, copying) = jobs_and_last(rt, shared.alloc, venue, seats, inboxes)?;
+    let quoting = Seated {
+        rt,
+        venue,
+        seats: venue.split(shared.alloc, seats)?,
+    };
+    let (links, quoted, copied) = work_all(shared, jobs, quoting, session, copying)?;
+    Ok(join_all(venue, seats, links, quoted, copied))
+}
+
+/// Serves all connections of a venue and the drop session, and submits the quotes: see `serve_inboxes`.
 fn serve_all<R: Threads + Wait + Sync + rt::Clock, V: Held + Drop + Send>(
     rt: &R,
     server: &Server<'_, '_>,
@@ -77,15 +104,9 @@ fn serve_all<R: Threads + Wait + Sync + rt::Clock, V: Held + Drop + Send>(
     ensures { OnOk result (HasSeats venue.now whole seats.new) }
 {
     let cell = desk_cell(server.alloc, server.config)?;
-    // One more than there are connections, for the drop session.
-    let count = server.plan.connections as usize + 1;
-    let (bells, inboxes) = bells_of(server.alloc, count)?;
-    let (jobs, copying) = jobs_and_last(rt, server.alloc, venue, seats, inboxes)?;
-    let quoting = Seated {
-        rt,
-        venue,
-        seats: venue.split(server.alloc, seats)?,
-    };
+    // The drop session's inbox stands behind those of the connections.
+    let connections = server.plan.connections as usize;
+    let (bells, inboxes) = bells_of(server.alloc, connections + 1)?;
     let done = AtomicBool::new(false);
     let shared = Shared {
         rt,
@@ -94,16 +115,12 @@ fn serve_all<R: Threads + Wait + Sync + rt::Clock, V: Held + Drop + Send>(
         listener: server.listener,
         cell: &cell,
         bells: &bells,
-        last: copying.number,
+        last: connections,
         done: &done,
         system: server.system,
         quotes: server.plan.quotes.as_ref().map(|name| name.as_str()),
     };
-    let (links, quoted, copied) = work_all(&shared, jobs, quoting, session, copying)?;
-    let mut finished = links;
-    finished.push(quoted)?;
-    finished.push(copied)?;
-    Ok(join_all(venue, seats, finished))
+    serve_inboxes(&shared, venue, seats, inboxes, session)
 }
 
 /// Serves a venue of books: see `serve_all`.
