@@ -11,7 +11,7 @@ mod plans;
 use drop_copy::DropDesk;
 use fix_write::wrap;
 use script_text::read_header;
-use std::alloc::Global;
+use std::alloc::{AllocError, Global};
 use std::sync::ledger::{Blank, Ledger};
 use venue_words::{BoxedTerms, Bytes, Command, Config, Floor, Id, NoMemory, Steps, Terms};
 
@@ -49,13 +49,21 @@ fn start() -> i64 {
     START
 }
 
-/// The frame of a text in which `|` stands for the end of a field.
-fn frame_of(alloc: Global, text: &[u8]) -> Result<Vec<u8>, NoMemory> {
+/// The bytes of a text in which `|` stands for the end of a field.
+fn content_of(alloc: Global, text: &[u8]) -> Result<Vec<u8>, AllocError> {
     let mut content = Vec::new(alloc);
     for byte in text {
         content.push(if *byte == b'|' { 1 } else { *byte })?;
     }
-    wrap(alloc, &content)
+    Ok(content)
+}
+
+/// The frame of such a text.
+fn frame_of(alloc: Global, text: &[u8]) -> Result<Vec<u8>, NoMemory> {
+    let content = content_of(alloc, text)?;
+    let frame = wrap(alloc, &content);
+    drop(content);
+    frame
 }
 
 /// The frames of these texts, one behind the other.
@@ -176,7 +184,25 @@ fn submit_order<F: Floor, L: Ledger>(
     ensures mark { F.mark floor.new ≡ F.mark floor.old }
 {
     let order = order(alloc, member, id, side)?;
-    submit(floor, member + 1, &order, steps)
+    let submitted = submit(floor, member + 1, &order, steps);
+    drop(order);
+    submitted
+}
+
+/// The quote 10.00 to 10.01 of X.
+fn submit_quote<F: Floor, L: Ledger>(floor: &mut F, steps: &mut Steps<L>) -> Result<(), NoMemory>
+    requires symbol { 0 < length (F.mark floor.old).setup.limits }
+    requires markets { 1 ≤ (F.mark floor.old).setup.markets }
+    ensures mark { F.mark floor.new ≡ F.mark floor.old }
+{
+    let quote = Command::Quote {
+        market: 0,
+        bid: Some(1000),
+        offer: Some(1001),
+    };
+    let submitted = submit(floor, 3, &quote, steps);
+    drop(quote);
+    submitted
 }
 
 /// A quote of X, and an order of A that trades with one of B.
@@ -188,12 +214,7 @@ fn trade<F: Floor, L: Ledger>(alloc: Global, floor: &mut F, blank: Blank) -> Res
     ensures mark { F.mark floor.new ≡ F.mark floor.old }
 {
     let mut steps: Steps<L> = Steps::start(blank);
-    let quote = Command::Quote {
-        market: 0,
-        bid: Some(1000),
-        offer: Some(1001),
-    };
-    submit(floor, 3, &quote, &mut steps)?;
+    submit_quote(floor, &mut steps)?;
     submit_order(alloc, floor, 0, b"a1", b'1', &mut steps)?;
     submit_order(alloc, floor, 1, b"b1", b'2', &mut steps)
 }

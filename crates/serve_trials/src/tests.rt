@@ -5,7 +5,7 @@ ghost use Rattle.venue_words.specs.Conditions.{IsConfig};
 mod quotes;
 
 use fix_write::wrap;
-use io_edge::{LinkItem, MemClock, MemLink, MemShelf};
+use io_edge::{Link, LinkItem, MemClock, MemLink, MemShelf, Shelf};
 use link_work::LinkEnd;
 use member_gate::{DeskTable, Desks, desks_of};
 use script_text::read_header;
@@ -78,7 +78,75 @@ impl Outcome {
     }
 }
 
+/// The desks of all members, or without A's.
+fn desks_for(alloc: Global, config: &Config, is_there: bool) -> Result<DeskTable, NoMemory>
+    requires { IsConfig config.now }
+    ensures { IfOk result (λ desks. ⟦<DeskTable as Desks>⟧.members desks ≡ length config.now.members) }
+{
+    let mut desks = DeskTable::new(alloc, desks_of(alloc, config)?)?;
+    if !is_there && desks.members() > 0 {
+        drop(desks.take(0));
+    }
+    Ok(desks)
+}
+
+/// The end of a connection to a venue that took all quotes.
+fn end_behind(quoted: QuoteEnd, end: LinkEnd) -> Result<LinkEnd, NoMemory> {
+    match quoted {
+        QuoteEnd::Done => Ok(end),
+        _ => Err(NoMemory),
+    }
+}
+
+/// Serves one connection over a venue of its own that has taken the quotes of the shelf's file.
+fn served_at<R: Wait, H: Shelf, D: Desks, K: Link>(
+    rt: &R,
+    alloc: Global,
+    config: &Config,
+    shelf: &mut H,
+    desks: &mut D,
+    link: &mut K,
+) -> Result<LinkEnd, NoMemory>
+    requires config { IsConfig config.now }
+    requires desks { D.members desks.old ≡ length config.now.members }
+{
+    let mut clock = clock_of(alloc)?;
+    let (venue, seats) = make(alloc, HashSeed::fixed(), config)?;
+    let mut floor = Seated {
+        rt,
+        venue: &venue,
+        seats,
+    };
+    let quoted = serve_quotes(alloc, config, &mut floor, shelf, "q", &mut clock);
+    let end = serve_link(alloc, config, &mut floor, desks, link, &mut clock);
+    drop(floor);
+    drop(venue);
+    drop(clock);
+    end_behind(quoted, end)
+}
+
 /// Serves one connection over a venue that has taken the quote 150.10 to 150.14, with the desks of all members, or without A's.
+fn served_under<R: Wait>(
+    rt: &R,
+    alloc: Global,
+    config: &Config,
+    link: &mut MemLink,
+    is_there: bool,
+) -> Result<Outcome, NoMemory>
+    requires { IsConfig config.now }
+{
+    let quote = Vec::from_slice(alloc, b"Q X N 150.10 150.14\n")?;
+    let mut shelf = shelf_of(alloc, quote, 0)?;
+    let mut desks = desks_for(alloc, config, is_there)?;
+    let ended = served_at(rt, alloc, config, &mut shelf, &mut desks, link);
+    let is_back = desks.members() > 0 && desks.take(0).is_some();
+    drop(desks);
+    drop(shelf);
+    let end = ended?;
+    Ok(Outcome { end, is_back })
+}
+
+/// Serves one connection under the config of all trials: see `served_under`.
 fn served<R: Wait>(
     rt: &R,
     alloc: Global,
@@ -86,27 +154,9 @@ fn served<R: Wait>(
     is_there: bool,
 ) -> Result<Outcome, NoMemory> {
     let config = config_of(alloc)?;
-    let quote = Vec::from_slice(alloc, b"Q X N 150.10 150.14\n")?;
-    let mut shelf = shelf_of(alloc, quote, 0)?;
-    let mut clock = clock_of(alloc)?;
-    let mut desks = DeskTable::new(alloc, desks_of(alloc, &config)?)?;
-    if !is_there && desks.members() > 0 {
-        let _ = desks.take(0).is_some();
-    }
-    // What may fail stands above, so that a venue and its seats are dropped at one place.
-    let (venue, seats) = make(alloc, HashSeed::fixed(), &config)?;
-    let mut floor = Seated {
-        rt,
-        venue: &venue,
-        seats,
-    };
-    let quoted = serve_quotes(alloc, &config, &mut floor, &mut shelf, "q", &mut clock);
-    let end = serve_link(alloc, &config, &mut floor, &mut desks, link, &mut clock);
-    let is_back = desks.members() > 0 && desks.take(0).is_some();
-    match quoted {
-        QuoteEnd::Done => Ok(Outcome { end, is_back }),
-        _ => Err(NoMemory),
-    }
+    let outcome = served_under(rt, alloc, &config, link, is_there);
+    drop(config);
+    outcome
 }
 
 #[test]

@@ -3,12 +3,12 @@ ghost use Rattle.std.specs.Prelude.{◌<◌, ◌≤◌, length, IfOk};
 ghost use Rattle.venue_words.specs.Conditions.{IsConfig};
 ghost use Rattle.drop_copy.specs.Desks.{AreConfigured};
 
-use drop_copy::DropPlan;
+use drop_copy::{DropDesk, DropPlan};
 use fix_write::wrap;
 use io_edge::MemSink;
 use script_text::read_header;
 use serve_core::{ServePlan, exit_code};
-use std::alloc::Global;
+use std::alloc::{AllocError, Global};
 use std::io::{Read, Write};
 use std::net::{Net, SocketAddr, TcpListener, TcpStream};
 use std::sync::Wait;
@@ -118,23 +118,8 @@ fn peer_of<R: Net<Stream = TcpStream>>(rt: &R, alloc: Global, address: SocketAdd
     })
 }
 
-/// C gets copies. A bids and waits; B, who connects later, is rejected once and sells; A hears of his fill, logs out, and B ends
-/// without a word, which ends C's connection. All that C heard comes back.
-fn trade<R: Net<Stream = TcpStream>>(
-    rt: &R,
-    alloc: Global,
-    address: SocketAddr,
-    drop_address: SocketAddr,
-) -> Option<Vec<u8>> {
-    let mut c = peer_of(rt, alloc, drop_address)?;
-    c.say(alloc, C_LOGON)?;
-    c.hear(b"\x0135=A\x01")?;
-    let mut a = peer_of(rt, alloc, address)?;
-    a.say(alloc, A_LOGON)?;
-    a.say(alloc, A_ORDER)?;
-    a.hear(b"\x01150=0\x01")?;
-    c.hear(b"\x019703=A\x01")?;
-    let mut b = peer_of(rt, alloc, address)?;
+/// B is rejected once and sells; A hears of his fill and logs out.
+fn sell(alloc: Global, b: &mut Peer, a: &mut Peer, c: &mut Peer) -> Option<()> {
     b.say(alloc, B_LOGON)?;
     b.say(alloc, B_NOTHING)?;
     c.hear(b"\x019703=B\x01")?;
@@ -142,10 +127,63 @@ fn trade<R: Net<Stream = TcpStream>>(
     a.hear(b"\x01150=F\x01")?;
     b.hear(b"\x01150=F\x01")?;
     a.say(alloc, A_LOGOUT)?;
-    a.hear(b"\x0135=5\x01")?;
+    a.hear(b"\x0135=5\x01")
+}
+
+/// A bids and waits. B connects later, and ends without a word, which ends C's connection.
+fn bid<R: Net<Stream = TcpStream>>(
+    rt: &R,
+    alloc: Global,
+    address: SocketAddr,
+    a: &mut Peer,
+    c: &mut Peer,
+) -> Option<()> {
+    a.say(alloc, A_LOGON)?;
+    a.say(alloc, A_ORDER)?;
+    a.hear(b"\x01150=0\x01")?;
+    c.hear(b"\x019703=A\x01")?;
+    let mut b = peer_of(rt, alloc, address)?;
+    let sold = sell(alloc, &mut b, a, c);
     drop(b);
-    c.hear_end()?;
-    Some(c.heard)
+    sold?;
+    c.hear_end()
+}
+
+/// C logs on before A connects.
+fn copied<R: Net<Stream = TcpStream>>(
+    rt: &R,
+    alloc: Global,
+    address: SocketAddr,
+    c: &mut Peer,
+) -> Option<()> {
+    c.say(alloc, C_LOGON)?;
+    c.hear(b"\x0135=A\x01")?;
+    let mut a = peer_of(rt, alloc, address)?;
+    let done = bid(rt, alloc, address, &mut a, c);
+    drop(a);
+    done
+}
+
+/// C gets copies of what A and B are told. All that C heard comes back.
+fn trade<R: Net<Stream = TcpStream>>(
+    rt: &R,
+    alloc: Global,
+    address: SocketAddr,
+    drop_address: SocketAddr,
+) -> Option<Vec<u8>> {
+    let mut c = peer_of(rt, alloc, drop_address)?;
+    match copied(rt, alloc, address, &mut c) {
+        Some(()) => Some(c.heard),
+        None => None,
+    }
+}
+
+/// Appends the number of a copy and its member, as a line.
+fn push_copy(copies: &mut Vec<u8>, number: &[u8], member: &[u8]) -> Result<(), AllocError> {
+    copies.extend_from_slice(number)?;
+    copies.push(b' ')?;
+    copies.extend_from_slice(member)?;
+    Ok(copies.push(b'\n')?)
 }
 
 /// The number of each copy, and its member.
@@ -157,10 +195,7 @@ fn copies_in(alloc: Global, heard: &[u8]) -> Result<Vec<u8>, NoMemory> {
             number = field;
         }
         if field.starts_with(b"9703=") {
-            copies.extend_from_slice(number)?;
-            copies.push(b' ')?;
-            copies.extend_from_slice(field)?;
-            copies.push(b'\n')?;
+            push_copy(&mut copies, number, field)?;
         }
     }
     Ok(copies)
@@ -198,30 +233,65 @@ fn plan_of(alloc: Global, connections: u32, quotes: &str) -> Result<ServePlan, N
     })
 }
 
-/// The drop session C, which gets copies of the reports of both members, at the listener.
-fn session_of(
-    alloc: Global,
-    config: &Config,
-    listener: TcpListener,
-) -> Result<CopySession, NoMemory>
-    requires { IsConfig config.now }
-    ensures { IfOk result (λ session. AreConfigured session.desk.members config.now) }
-{
+/// The names of both members.
+fn members_of(alloc: Global) -> Result<Vec<String>, NoMemory> {
     let mut members = Vec::new(alloc);
-    members.push(String::from_str(alloc, "B")?)?;
-    members.push(String::from_str(alloc, "A")?)?;
+    for name in ["B", "A"] {
+        members.push(String::from_str(alloc, name)?)?;
+    }
+    Ok(members)
+}
+
+/// The desk of the drop session C, which gets copies of the reports of both members.
+fn desk_of(alloc: Global, config: &Config) -> Result<DropDesk, NoMemory>
+    requires { IsConfig config.now }
+    ensures { IfOk result (λ desk. AreConfigured desk.members config.now) }
+{
+    let members = members_of(alloc)?;
     let plan = DropPlan {
         address: String::new(alloc),
         name: String::from_str(alloc, "C")?,
         members,
     };
     match copies_of(alloc, plan, config) {
-        Ok(copies) => Ok(CopySession {
-            listener,
-            desk: copies.desk,
-        }),
+        Ok(copies) => Ok(copies.desk),
         Err(_) => Err(NoMemory),
     }
+}
+
+/// The exit status of a server that puts its listing there, with the drop session C at its listener.
+fn served_into<R: Threads + Wait + Sync + rt::Clock>(
+    rt: &R,
+    server: &Server<'_, '_>,
+    drop_listener: TcpListener,
+    out: &mut MemSink,
+) -> Result<u8, NoMemory>
+    requires config { IsConfig server.now.config.now }
+    requires few { server.now.plan.now.connections ≤ 64 }
+{
+    let session = CopySession {
+        listener: drop_listener,
+        desk: desk_of(server.alloc, server.config)?,
+    };
+    let status = serve(rt, server, Some(session), out)?;
+    Ok(exit_code(status))
+}
+
+/// The exit status of a server, and its listing.
+fn served_by<R: Threads + Wait + Sync + rt::Clock>(
+    rt: &R,
+    server: &Server<'_, '_>,
+    drop_listener: TcpListener,
+) -> Result<(u8, Vec<u8>), NoMemory>
+    requires config { IsConfig server.now.config.now }
+    requires few { server.now.plan.now.connections ≤ 64 }
+{
+    let alloc = server.alloc;
+    let mut out = MemSink::new(alloc, Vec::new(alloc));
+    let exit = served_into(rt, server, drop_listener, &mut out);
+    let listing = Vec::from_slice(alloc, out.bytes());
+    drop(out);
+    Ok((exit?, listing?))
 }
 
 /// The exit status of the server at the listeners, and its listing.
@@ -238,8 +308,6 @@ fn served<R: Threads + Wait + Sync + rt::Clock>(
     let alloc = system.alloc();
     let config = config_of(alloc)?;
     let plan = plan_of(alloc, connections, quotes)?;
-    let session = session_of(alloc, &config, drop_listener)?;
-    let mut out = MemSink::new(alloc, Vec::new(alloc));
     let server = Server {
         alloc,
         plan: &plan,
@@ -247,8 +315,10 @@ fn served<R: Threads + Wait + Sync + rt::Clock>(
         listener,
         system,
     };
-    let status = serve(rt, &server, Some(session), &mut out)?;
-    Ok((exit_code(status), Vec::from_slice(alloc, out.bytes())?))
+    let outcome = served_by(rt, &server, drop_listener);
+    drop(plan);
+    drop(config);
+    outcome
 }
 
 /// How many lines begin with this byte.
@@ -257,6 +327,14 @@ fn lines_of(listing: &[u8], kind: u8) -> usize {
         .split(|byte| *byte == b'\n')
         .filter(|line| line.first() == Some(&kind))
         .count()
+}
+
+/// How many lines tell of a symbol, of an event and of a report.
+fn line_counts(listing: &[u8]) -> (usize, usize, usize) {
+    let symbols = lines_of(listing, b'S');
+    let events = lines_of(listing, b'J');
+    let reports = lines_of(listing, b'R');
+    (symbols, events, reports)
 }
 
 #[test]
@@ -274,15 +352,17 @@ fn a_fill_reaches_the_member_who_waits_and_copies_go_out(rt: HostRuntime) -> Res
         || trade(&rt, alloc, address, drop_address),
     );
     fs::remove_file(&rt, name)?;
-    let (exit, listing) = server?;
     let Some(heard) = client else {
         return Err(Fail::from("a step did not come"));
     };
-    assert_eq!(rt; copies_in(alloc, heard.as_slice())?.as_slice(), COPIES);
+    let copies = copies_in(alloc, heard.as_slice());
+    drop(heard);
+    let (exit, listing) = server?;
+    let lines = line_counts(listing.as_slice());
+    drop(listing);
+    assert_eq!(rt; copies?.as_slice(), COPIES);
     assert_eq!(rt; exit, 0);
-    assert_eq!(rt; lines_of(listing.as_slice(), b'S'), 1);
-    assert_eq!(rt; lines_of(listing.as_slice(), b'J'), 4);
-    assert_eq!(rt; lines_of(listing.as_slice(), b'R'), 5);
+    assert_eq!(rt; lines, (1, 4, 5));
     Ok(())
 }
 

@@ -67,6 +67,7 @@ fn worked(
     let mut worker = LineWorker::new(alloc, config)?;
     let mut out = Vec::new(alloc);
     let end = work_all::<Listing, Brand>(&mut worker, &mut floor, lines, &mut out, Blank::new(1));
+    drop(worker);
     Ok((end, floor, out))
 }
 

@@ -1,5 +1,5 @@
 //! Connections over links in memory.
-ghost use Rattle.std.specs.Prelude.{◌<◌, length};
+ghost use Rattle.std.specs.Prelude.{◌≡◌, ◌<◌, length};
 ghost use Rattle.venue_words.specs.Conditions.{IsConfig};
 ghost use Rattle.venue_words.specs.Floors.{IsSetUpFor};
 
@@ -43,24 +43,49 @@ fn served_over<'a, R: Wait, V: Held>(
 ) -> Result<LinkEnd, NoMemory>
     requires config { IsConfig config.now }
     requires setup { IsSetUpFor config.now (⟦<Seated<'a, R, V> as Floor>⟧.mark floor.old).setup }
-    requires members { 0 < length config.now.members }
+    requires members { length config.now.members ≡ 2 }
+    requires markets { length config.now.markets ≡ 1 }
+    requires symbols { 0 < length (⟦<Seated<'a, R, V> as Floor>⟧.mark floor.old).setup.limits }
 {
-    let mut desk = desk_of(alloc, config)?;
+    trade::<_, Brand>(alloc, floor, Blank::new(1))?;
     let mut clock = MemClock::new(vec![in alloc; start()]?);
-    Ok(serve_drop(alloc, config, floor, &mut desk, link, &mut clock))
+    let mut desk = desk_of(alloc, config)?;
+    let end = serve_drop(alloc, config, floor, &mut desk, link, &mut clock);
+    drop(desk);
+    drop(clock);
+    Ok(end)
 }
 
-/// Serves one connection over a venue for many threads.
-fn served<R: Wait>(rt: &R, alloc: Global, link: &mut MemLink) -> Result<LinkEnd, NoMemory> {
-    let config = config_of(alloc)?;
-    let (venue, seats) = make(alloc, HashSeed::fixed(), &config)?;
+/// Serves one connection over a venue for many threads, of this config.
+fn served_under<R: Wait>(
+    rt: &R,
+    alloc: Global,
+    config: &Config,
+    link: &mut MemLink,
+) -> Result<LinkEnd, NoMemory>
+    requires config { IsConfig config.now }
+    requires members { length config.now.members ≡ 2 }
+    requires markets { length config.now.markets ≡ 1 }
+    requires symbols { length config.now.limits ≡ 2 }
+{
+    let (venue, seats) = make(alloc, HashSeed::fixed(), config)?;
     let mut floor = Seated {
         rt,
         venue: &venue,
         seats,
     };
-    trade::<_, Brand>(alloc, &mut floor, Blank::new(1))?;
-    served_over(alloc, &config, &mut floor, link)
+    let end = served_over(alloc, config, &mut floor, link);
+    drop(floor);
+    drop(venue);
+    end
+}
+
+/// Serves one connection under the config of all trials.
+fn served<R: Wait>(rt: &R, alloc: Global, link: &mut MemLink) -> Result<LinkEnd, NoMemory> {
+    let config = config_of(alloc)?;
+    let end = served_under(rt, alloc, &config, link);
+    drop(config);
+    end
 }
 
 /// All that is put.

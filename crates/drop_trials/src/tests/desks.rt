@@ -6,10 +6,10 @@ ghost use Rattle.drop_copy.specs.Desks.{AreConfigured};
 
 use super::{
     FIRST_AGAIN, FIRST_COPY, LOGON, LOGON_ANSWER, ORDER, ORDER_ANSWER, RESEND, SECOND_AGAIN,
-    SECOND_COPY, config_of, desk_of, frames_of, start, trade,
+    SECOND_COPY, config_of, desk_of, frame_of, frames_of, start, trade,
 };
 use drop_copy::DropDesk;
-use std::alloc::{AllocError, Global};
+use std::alloc::Global;
 use std::marker::Brand;
 use std::sync::ledger::Blank;
 use std::test::Fail;
@@ -17,43 +17,75 @@ use symbol_book::HashSeed;
 use venue_core::plain;
 use venue_words::{Bytes, Config, Floor, NoMemory};
 
-/// Appends the bytes of a frame.
-fn push_frame(bytes: &mut Vec<u8>, frame: &Bytes) -> Result<(), AllocError> {
-    bytes.extend_from_slice(frame.as_slice())
+/// Whether this is the frame of this text.
+fn is_frame(alloc: Global, frame: &Bytes, text: &[u8]) -> Result<bool, NoMemory> {
+    let wanted = frame_of(alloc, text)?;
+    let is_same = frame.as_slice() == wanted.as_slice();
+    drop(wanted);
+    Ok(is_same)
 }
 
-/// The bytes of frames, one behind the other.
-fn joined(alloc: Global, frames: &[Bytes]) -> Result<Vec<u8>, NoMemory> {
-    let mut bytes = Vec::new(alloc);
-    for frame in frames {
-        push_frame(&mut bytes, frame)?;
+/// Whether these are the frames of these texts, in their order.
+fn are_frames(alloc: Global, frames: &[Bytes], texts: &[&[u8]]) -> Result<bool, NoMemory> {
+    if frames.len() != texts.len() {
+        return Ok(false);
     }
-    Ok(bytes)
+    for (frame, text) in frames.iter().zip(texts) {
+        if !is_frame(alloc, frame, text)? {
+            return Ok(false);
+        }
+    }
+    Ok(true)
 }
 
-/// What a desk pulls, and what it pulls then.
-fn pull_twice<F: Floor>(
+/// Whether a desk pulls the frames of these texts.
+fn pulls<F: Floor>(
     alloc: Global,
     desk: &mut DropDesk,
     floor: &mut F,
     config: &Config,
-) -> Result<(Vec<u8>, usize), NoMemory>
+    texts: &[&[u8]],
+) -> Result<bool, NoMemory>
     requires config { IsConfig config.now }
     requires setup { IsSetUpFor config.now (F.mark floor.old).setup }
     requires members { AreConfigured desk.old.members config.now }
+    ensures members { desk.new.members ≡ desk.old.members }
+    ensures mark { F.mark floor.new ≡ F.mark floor.old }
 {
-    let first = desk.pull(floor, config, start())?;
-    let second = desk.pull(floor, config, start())?;
-    Ok((joined(alloc, &first)?, second.len()))
+    let frames = desk.pull(floor, config, start())?;
+    let are_wanted = are_frames(alloc, &frames, texts);
+    drop(frames);
+    are_wanted
 }
 
-/// What a desk sends for the frames of these texts.
-fn taken(alloc: Global, desk: &mut DropDesk, texts: &[&[u8]]) -> Result<Vec<u8>, NoMemory>
+/// Whether a desk sends the frames of these texts for a piece.
+fn replies(
+    alloc: Global,
+    desk: &mut DropDesk,
+    piece: &[u8],
+    texts: &[&[u8]],
+) -> Result<bool, NoMemory>
+    ensures { desk.new.members ≡ desk.old.members }
+{
+    let turn = desk.take(start(), piece)?;
+    let are_wanted = are_frames(alloc, turn.replies.as_slice(), texts);
+    drop(turn);
+    are_wanted
+}
+
+/// Whether a desk answers the frames of some texts with those of others.
+fn answers(
+    alloc: Global,
+    desk: &mut DropDesk,
+    texts: &[&[u8]],
+    answers: &[&[u8]],
+) -> Result<bool, NoMemory>
     ensures { desk.new.members ≡ desk.old.members }
 {
     let piece = frames_of(alloc, texts)?;
-    let turn = desk.take(start(), &piece)?;
-    joined(alloc, turn.replies.as_slice())
+    let are_wanted = replies(alloc, desk, &piece, answers);
+    drop(piece);
+    are_wanted
 }
 
 const LOGONS: &[&[u8]] = &[LOGON];
@@ -66,54 +98,74 @@ const REQUESTS: &[&[u8]] = &[RESEND, ORDER];
 
 const AGAIN: &[&[u8]] = &[FIRST_AGAIN, SECOND_AGAIN, ORDER_ANSWER];
 
-/// What comes of a logon, of two pulls behind a trade, and of a request for both copies again and an order.
-#[derive(Drop)]
+/// Whether a logon, two pulls behind a trade, and a request for both copies again and an order are answered as they are to be.
+#[derive(Clone, Copy)]
 struct Seen {
-    logon: Vec<u8>,
-    pulled: Vec<u8>,
-    more: usize,
-    again: Vec<u8>,
+    logon: bool,
+    pulled: bool,
+    no_more: bool,
+    again: bool,
+}
+
+fn worked_with<F: Floor>(
+    alloc: Global,
+    config: &Config,
+    floor: &mut F,
+    desk: &mut DropDesk,
+) -> Result<Seen, NoMemory>
+    requires config { IsConfig config.now }
+    requires setup { IsSetUpFor config.now (F.mark floor.old).setup }
+    requires members { AreConfigured desk.old.members config.now }
+{
+    Ok(Seen {
+        logon: answers(alloc, desk, LOGONS, LOGGED_ON)?,
+        pulled: pulls(alloc, desk, floor, config, COPIES)?,
+        no_more: pulls(alloc, desk, floor, config, &[])?,
+        again: answers(alloc, desk, REQUESTS, AGAIN)?,
+    })
 }
 
 fn worked_over<F: Floor>(alloc: Global, config: &Config, floor: &mut F) -> Result<Seen, NoMemory>
     requires config { IsConfig config.now }
     requires setup { IsSetUpFor config.now (F.mark floor.old).setup }
-    requires members { 0 < length config.now.members }
+    requires members { length config.now.members ≡ 2 }
+    requires markets { length config.now.markets ≡ 1 }
+    requires symbols { 0 < length (F.mark floor.old).setup.limits }
 {
+    trade::<_, Brand>(alloc, floor, Blank::new(1))?;
     let mut desk = desk_of(alloc, config)?;
-    let logon = taken(alloc, &mut desk, LOGONS)?;
-    let (pulled, more) = pull_twice(alloc, &mut desk, floor, config)?;
-    let again = taken(alloc, &mut desk, REQUESTS)?;
-    Ok(Seen {
-        logon,
-        pulled,
-        more,
-        again,
-    })
+    let seen = worked_with(alloc, config, floor, &mut desk);
+    drop(desk);
+    seen
+}
+
+fn worked_under(alloc: Global, config: &Config) -> Result<Seen, NoMemory>
+    requires config { IsConfig config.now }
+    requires members { length config.now.members ≡ 2 }
+    requires markets { length config.now.markets ≡ 1 }
+    requires symbols { length config.now.limits ≡ 2 }
+{
+    let mut floor = plain(alloc, HashSeed::fixed(), config)?;
+    let seen = worked_over(alloc, config, &mut floor);
+    drop(floor);
+    seen
 }
 
 fn worked(alloc: Global) -> Result<Seen, NoMemory> {
     let config = config_of(alloc)?;
-    let mut floor = plain(alloc, HashSeed::fixed(), &config)?;
-    trade::<_, Brand>(alloc, &mut floor, Blank::new(1))?;
-    worked_over(alloc, &config, &mut floor)
-}
-
-/// Whether some bytes are the frames of these texts.
-fn are_frames(alloc: Global, bytes: &[u8], texts: &[&[u8]]) -> Result<bool, NoMemory> {
-    let frames = frames_of(alloc, texts)?;
-    Ok(bytes == frames.as_slice())
+    let seen = worked_under(alloc, &config);
+    drop(config);
+    seen
 }
 
 #[test]
 fn a_members_reports_are_copied_once_and_again_where_they_are_asked_for(
     rt: HostRuntime,
 ) -> Result<(), Fail> {
-    let alloc = rt.alloc();
-    let seen = worked(alloc)?;
-    assert!(rt; are_frames(alloc, &seen.logon, LOGGED_ON)?);
-    assert!(rt; are_frames(alloc, &seen.pulled, COPIES)?);
-    assert_eq!(rt; seen.more, 0);
-    assert!(rt; are_frames(alloc, &seen.again, AGAIN)?);
+    let seen = worked(rt.alloc())?;
+    assert!(rt; seen.logon);
+    assert!(rt; seen.pulled);
+    assert!(rt; seen.no_more);
+    assert!(rt; seen.again);
     Ok(())
 }

@@ -1,5 +1,8 @@
 //! How files of quotes end.
+ghost use Rattle.venue_words.specs.Conditions.{IsConfig};
+
 use super::{clock_of, config_of, shelf_of};
+use io_edge::Shelf;
 use script_text::LineCause;
 use serve_core::{QuoteEnd, serve_quotes};
 use std::alloc::Global;
@@ -7,9 +10,32 @@ use std::sync::Wait;
 use std::test::Fail;
 use symbol_book::HashSeed;
 use venue_core::{Seated, make};
-use venue_words::NoMemory;
+use venue_words::{Config, NoMemory};
 
 const QUOTE: &[u8] = b"Q X N 150.10 150.14\n";
+
+/// How the shelf's file ends, over a venue of its own.
+fn ended_at<R: Wait, H: Shelf>(
+    rt: &R,
+    alloc: Global,
+    config: &Config,
+    shelf: &mut H,
+) -> Result<QuoteEnd, NoMemory>
+    requires { IsConfig config.now }
+{
+    let mut clock = clock_of(alloc)?;
+    let (venue, seats) = make(alloc, HashSeed::fixed(), config)?;
+    let mut floor = Seated {
+        rt,
+        venue: &venue,
+        seats,
+    };
+    let end = serve_quotes(alloc, config, &mut floor, shelf, "q", &mut clock);
+    drop(floor);
+    drop(venue);
+    drop(clock);
+    Ok(end)
+}
 
 /// How a file with so many quotes and then this text ends, over a venue of its own whose shelf fails at this call, if it comes to that.
 fn ended<R: Wait>(
@@ -19,21 +45,17 @@ fn ended<R: Wait>(
     text: &[u8],
     fails: u64,
 ) -> Result<QuoteEnd, NoMemory> {
-    let config = config_of(alloc)?;
     let mut bytes = Vec::new(alloc);
     for _ in 0..quotes {
         bytes.extend_from_slice(QUOTE)?;
     }
     bytes.extend_from_slice(text)?;
     let mut shelf = shelf_of(alloc, bytes, fails)?;
-    let mut clock = clock_of(alloc)?;
-    let (venue, seats) = make(alloc, HashSeed::fixed(), &config)?;
-    let mut floor = Seated {
-        rt,
-        venue: &venue,
-        seats,
-    };
-    Ok(serve_quotes(alloc, &config, &mut floor, &mut shelf, "q", &mut clock))
+    let config = config_of(alloc)?;
+    let end = ended_at(rt, alloc, &config, &mut shelf);
+    drop(config);
+    drop(shelf);
+    end
 }
 
 #[test]

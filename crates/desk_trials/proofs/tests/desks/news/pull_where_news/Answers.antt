@@ -4,7 +4,7 @@ use Rattle.std.specs.Prelude.{slice_index}
 use Rattle.venue_words.specs.declared.report.Report.{Report}
 use Rattle.venue_words.specs.Floors.{SymbolView}
 use Rattle.member_gate.specs.Reporting.{AreFronts}
-use Rattle.desk_trials.proofs.tests.desks.pull_where_news.Goals as goal
+use Rattle.desk_trials.proofs.tests.desks.news.pull_where_news.Goals as goal
 
 read_of_two : (reports : ℕ → List Report) (first second : ℕ) → first ≡ length (reports 0) → second ≡ length (reports 1)
     → (symbol : ℕ) → symbol < 2 → slice_index (first ∷ second ∷ []) symbol ≡ length (reports symbol)

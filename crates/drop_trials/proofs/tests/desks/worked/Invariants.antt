@@ -1,5 +1,0 @@
--- The ledger of the steps, which nothing reads.
-use Rattle.drop_trials.proofs.tests.desks.worked.Given as goal
-
-abbrev pub ghosts-trade : goal.ghosts-trade
-ghosts-trade a = record { name = a.blank.name; parts = a.blank.parts }
