@@ -4,7 +4,7 @@ ghost use Rattle.std.specs.Prelude.{◌≡◌};
 use audit_book::{BookRows, BookTable};
 use audit_core::{AuditFiles, Verdict};
 use audit_tables::asked::{Asked, Found, Question};
-use audit_tables::tabulate;
+use audit_tables::{Table, tabulate};
 use io_edge::{MemShelf, MemSink};
 use std::alloc::Global;
 use std::marker::Brand;
@@ -17,7 +17,7 @@ const CONFIG: &[u8] =
     b"PEGV 1\nMEMBER FUND\nMEMBER DESK\nMEMBER BANK\nMARKET NYSE\nMARKET NSDQ\nSYMBOL ACME 100\nBEGIN 20240102-14:30:00.000\n";
 
 /// A minimum that is not met, a quote that reprices one of two orders at a price, and one that locks the market.
-const DAY: [&[u8]; 14] = [
+const DAY: &[&[u8]] = &[
     b"S ACME 7 6\n",
     b"J ACME 1 1 20240102-14:30:00.000 Q NYSE 50.00 50.02\n",
     b"J ACME 2 1 20240102-14:30:01.000 D FUND 11=f1|54=1|38=300|40=P|110=200|1094=2|\n",
@@ -45,15 +45,14 @@ const BEHIND_LOCK: &[u8] =
 
 /// The config and the listing of the day.
 pub(crate) fn day_files(alloc: Global) -> Result<Vec<(String, Vec<u8>)>, Fail> {
-    let mut config = Vec::new(alloc);
-    config.extend_from_slice(CONFIG)?;
     let mut listing = Vec::new(alloc);
     for line in DAY {
         listing.extend_from_slice(line)?;
     }
     let mut files = Vec::new(alloc);
-    files.push((String::from_str(alloc, "c")?, config))?;
     files.push((String::from_str(alloc, "l")?, listing))?;
+    let config = Vec::from_slice(alloc, CONFIG)?;
+    files.push((String::from_str(alloc, "c")?, config))?;
     Ok(files)
 }
 
@@ -65,6 +64,22 @@ pub(crate) const FILES: AuditFiles<'static> = AuditFiles {
     config: "c",
     listing: "l",
 };
+
+/// Puts a table of the day.
+pub(crate) fn tabulate_day<T: Table, L: Ledger>(
+    alloc: Global,
+    table: &mut T,
+    steps: &mut Steps<L>,
+) -> Result<(), Fail> {
+    let mut shelf = day_shelf(alloc)?;
+    let verdict = tabulate(alloc, FILES, &mut shelf, table, steps);
+    drop(shelf);
+    match verdict {
+        Ok(Verdict::Same) => Ok(()),
+        Ok(Verdict::Differs { .. }) => Err(Fail::from("a line differs")),
+        Err(_) => Err(Fail::from("a fault")),
+    }
+}
 
 /// The book behind an event of the day, and what was found.
 fn book_of<A: Asked, L: Ledger>(
@@ -78,18 +93,14 @@ fn book_of<A: Asked, L: Ledger>(
     requires blank { (blank.name ≡ L.name) × (blank.parts ≡ L.parts) × (L.parts ≡ 1) }
 {
     let mut steps = Steps::<L>::start(blank);
-    let mut shelf = day_shelf(alloc)?;
     let question: Question<'_, A> = Question::new(name, event);
     let rows = BookRows::new(alloc, question)?;
     let mut table = BookTable::new(alloc, rows, MemSink::new(alloc, Vec::new(alloc)))?;
-    match tabulate(alloc, FILES, &mut shelf, &mut table, &mut steps) {
-        Ok(Verdict::Same) => {
-            let found = table.rows().found();
-            Ok((table.into_out(), found))
-        }
-        Ok(Verdict::Differs { .. }) => Err(Fail::from("a line differs")),
-        Err(_) => Err(Fail::from("a fault")),
-    }
+    let tabulated = tabulate_day(alloc, &mut table, &mut steps);
+    let found = table.rows().found();
+    let out = table.into_out();
+    tabulated?;
+    Ok((out, found))
 }
 
 fn look_at_book(
@@ -100,8 +111,8 @@ fn look_at_book(
     right: (&[u8], Found),
 ) -> Result<(), Fail> {
     let (sink, found) = book_of::<Brand, Brand>(alloc, name, event, Blank::new(1))?;
-    assert_eq!(rt; sink.bytes(), right.0);
-    assert_eq!(rt; found, right.1);
+    let is_so = sink.bytes() == right.0 && found == right.1;
+    assert!(rt; is_so, "event {event}: {found:?}");
     Ok(())
 }
 

@@ -13,7 +13,7 @@ use std::thread::Threads;
 use venue_words::{Bytes, Steps};
 
 /// The feed of the day in `books`.
-const FEED: [&[u8]; 14] = [
+const FEED: &[&[u8]] = &[
     b"M FUND 35=A|49=FUND|56=PEGV|34=1|52=20240102-14:30:00|98=0|108=30|1137=9|\n",
     b"M DESK 35=A|49=DESK|56=PEGV|34=1|52=20240102-14:30:00|98=0|108=30|1137=9|\n",
     b"M BANK 35=A|49=BANK|56=PEGV|34=1|52=20240102-14:30:00|98=0|108=30|1137=9|\n",
@@ -53,7 +53,9 @@ fn departures_of<R: Threads + Sync, L: Ledger>(
 {
     let mut steps = Steps::<L>::start(blank);
     let mut shelf = shelf_with(alloc, place, text)?;
-    match audit_feeds(rt, alloc, FILES, &["f"], &mut shelf, &mut steps) {
+    let verdict = audit_feeds(rt, alloc, FILES, &["f"], &mut shelf, &mut steps);
+    drop(shelf);
+    match verdict {
         Ok(FeedsVerdict::Same) => Ok(Bytes::copy_of(alloc, b"same")?),
         Ok(FeedsVerdict::Departures(departures)) => Ok(departures),
         Ok(FeedsVerdict::Differs { .. }) => Err(Fail::from("a line differs")),

@@ -1,11 +1,9 @@
 //! The life of an order.
 ghost use Rattle.std.specs.Prelude.{◌≡◌};
 
-use crate::books::{FILES, day_shelf};
-use audit_core::Verdict;
+use crate::books::tabulate_day;
 use audit_order::{OrderRows, OrderTable};
 use audit_tables::asked::{Asked, Found, Question};
-use audit_tables::tabulate;
 use io_edge::MemSink;
 use std::alloc::Global;
 use std::marker::Brand;
@@ -38,18 +36,14 @@ fn life_of<A: Asked, L: Ledger>(
     requires blank { (blank.name ≡ L.name) × (blank.parts ≡ L.parts) × (L.parts ≡ 1) }
 {
     let mut steps = Steps::<L>::start(blank);
-    let mut shelf = day_shelf(alloc)?;
     let question: Question<'_, A> = Question::new(name, event);
     let rows = OrderRows::new(alloc, question)?;
     let mut table = OrderTable::new(alloc, rows, MemSink::new(alloc, Vec::new(alloc)))?;
-    match tabulate(alloc, FILES, &mut shelf, &mut table, &mut steps) {
-        Ok(Verdict::Same) => {
-            let found = table.rows().found();
-            Ok((table.into_out(), found))
-        }
-        Ok(Verdict::Differs { .. }) => Err(Fail::from("a line differs")),
-        Err(_) => Err(Fail::from("a fault")),
-    }
+    let tabulated = tabulate_day(alloc, &mut table, &mut steps);
+    let found = table.rows().found();
+    let out = table.into_out();
+    tabulated?;
+    Ok((out, found))
 }
 
 fn look_at_life(
@@ -60,8 +54,8 @@ fn look_at_life(
     found: Found,
 ) -> Result<(), Fail> {
     let (sink, right) = life_of::<Brand, Brand>(alloc, b"ACME", event, Blank::new(1))?;
-    assert_eq!(rt; sink.bytes(), text);
-    assert_eq!(rt; right, found);
+    let is_so = sink.bytes() == text && right == found;
+    assert!(rt; is_so, "event {event}: {right:?}");
     Ok(())
 }
 

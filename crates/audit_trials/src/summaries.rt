@@ -1,10 +1,8 @@
 //! What each member did in each symbol, counted.
 ghost use Rattle.std.specs.Prelude.{◌≡◌};
 
-use crate::books::{FILES, day_shelf};
-use audit_core::Verdict;
+use crate::books::tabulate_day;
 use audit_summary::{SummaryRows, SummaryTable};
-use audit_tables::tabulate;
 use io_edge::MemSink;
 use std::alloc::Global;
 use std::marker::Brand;
@@ -22,12 +20,12 @@ fn look_at_summary<L: Ledger>(rt: &impl Abort, alloc: Global, blank: Blank) -> R
     requires one { blank.parts ≡ 1 }
 {
     let mut steps = Steps::<L>::start(blank);
-    let mut shelf = day_shelf(alloc)?;
     let rows = SummaryRows::new(alloc);
     let mut table = SummaryTable::new(alloc, rows, MemSink::new(alloc, Vec::new(alloc)))?;
-    let found = tabulate(alloc, FILES, &mut shelf, &mut table, &mut steps);
-    assert!(rt; matches!(found, Ok(Verdict::Same)));
-    assert_eq!(rt; table.into_out().bytes(), SUMMARY);
+    let tabulated = tabulate_day(alloc, &mut table, &mut steps);
+    let out = table.into_out();
+    tabulated?;
+    assert_eq!(rt; out.bytes(), SUMMARY);
     Ok(())
 }
 

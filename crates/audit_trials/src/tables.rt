@@ -18,6 +18,23 @@ const HEADER: &[u8] =
 const TRADES: &[u8] =
     b"symbol,event,moment,price,quantity,buy_order,sell_order,buyer,seller,bid,offer\nX,3,20240102-14:30:00.000,10.0050,100,X-2,X-3,A,B,10.00,10.01\n";
 
+/// Puts the table of a listing, and gives the line that differs, where one does.
+fn line_of<L: Ledger>(
+    alloc: Global,
+    listing: Vec<u8>,
+    table: &mut TradeTable<MemSink>,
+    steps: &mut Steps<L>,
+) -> Result<Option<u32>, Fail> {
+    let mut shelf = shelf_of(alloc, listing, 300, Vec::new(alloc))?;
+    let verdict = tabulate(alloc, FILES, &mut shelf, table, steps);
+    drop(shelf);
+    match verdict {
+        Ok(Verdict::Same) => Ok(None),
+        Ok(Verdict::Differs { line, .. }) => Ok(Some(line)),
+        Err(_) => Err(Fail::from("a fault")),
+    }
+}
+
 /// The table of a listing with other text in the place of a line, and the line that differs, where one does.
 fn trades_with<L: Ledger>(
     alloc: Global,
@@ -26,13 +43,23 @@ fn trades_with<L: Ledger>(
     steps: &mut Steps<L>,
 ) -> Result<(MemSink, Option<u32>), Fail> {
     let listing = listing_with(alloc, place, text)?;
-    let mut shelf = shelf_of(alloc, listing, 300, Vec::new(alloc))?;
     let mut table = TradeTable::new(alloc, MemSink::new(alloc, Vec::new(alloc)))?;
-    match tabulate(alloc, FILES, &mut shelf, &mut table, steps) {
-        Ok(Verdict::Same) => Ok((table.into_out(), None)),
-        Ok(Verdict::Differs { line, .. }) => Ok((table.into_out(), Some(line))),
-        Err(_) => Err(Fail::from("a fault")),
-    }
+    let line = line_of(alloc, listing, &mut table, steps);
+    let out = table.into_out();
+    let line = line?;
+    Ok((out, line))
+}
+
+/// Whether a listing with other text in the place of a line makes this table, and differs first with this line.
+fn makes<L: Ledger>(
+    alloc: Global,
+    change: (usize, &[u8]),
+    table: &[u8],
+    differs: Option<u32>,
+    steps: &mut Steps<L>,
+) -> Result<bool, Fail> {
+    let (sink, line) = trades_with(alloc, change.0, change.1, steps)?;
+    Ok(line == differs && sink.bytes() == table)
 }
 
 fn look_at_trades<L: Ledger>(rt: &impl Abort, alloc: Global, blank: Blank) -> Result<(), Fail>
@@ -41,12 +68,8 @@ fn look_at_trades<L: Ledger>(rt: &impl Abort, alloc: Global, blank: Blank) -> Re
     requires one { blank.parts ≡ 1 }
 {
     let mut steps = Steps::<L>::start(blank);
-    let (sink, line) = trades_with(alloc, PART.len(), b"", &mut steps)?;
-    assert_eq!(rt; line, None);
-    assert_eq!(rt; sink.bytes(), TRADES);
-    let (sink, line) = trades_with(alloc, 4, b"", &mut steps)?;
-    assert_eq!(rt; line, Some(5));
-    assert_eq!(rt; sink.bytes(), HEADER);
+    assert!(rt; makes(alloc, (PART.len(), b""), TRADES, None, &mut steps)?);
+    assert!(rt; makes(alloc, (4, b""), HEADER, Some(5), &mut steps)?);
     Ok(())
 }
 

@@ -18,7 +18,7 @@ const CONFIG: &[u8] =
     b"PEGV 1\nMEMBER A\nMEMBER B\nMARKET N\nSYMBOL X 3\nSYMBOL Y 2\nBEGIN 20240102-14:30:00.000\n";
 
 /// A quote, two orders and a trade, as the venue lists them.
-pub(crate) const PART: [&[u8]; 9] = [
+pub(crate) const PART: &[&[u8]] = &[
     b"S X 3 4\n",
     b"J X 1 1 20240102-14:30:00.000 Q N 10.00 10.01\n",
     b"J X 2 1 20240102-14:30:00.000 D A 11=a1|54=1|38=100|40=P|1094=2|\n",
@@ -56,28 +56,39 @@ pub(crate) fn shelf_of(
     Ok(MemShelf::new(files, piece, fails))
 }
 
-/// What a text is found to be: at 0 the listing of journals, and else the line that differs, and what should stand there.
-fn found<L: Ledger>(
+/// What the listing on a shelf is found to be, as `found` says.
+fn found_on<L: Ledger>(
     alloc: Global,
-    text: Vec<u8>,
+    shelf: &mut MemShelf,
     steps: &mut Steps<L>,
 ) -> Result<(u32, Option<Bytes>), Fail> {
     let (config, _) = read_header(alloc, CONFIG)?;
     if !has_word_names(&config) || !has_line_names(&config) {
         return Err(Fail::from("a name of two words"));
     }
-    let mut shelf = shelf_of(alloc, text, 1_000, Vec::new(alloc))?;
-    match verify(alloc, &config, &mut shelf, "l", steps) {
+    match verify(alloc, &config, shelf, "l", steps) {
         Ok(Verdict::Same) => Ok((0, None)),
         Ok(Verdict::Differs { line, expected }) => Ok((line, expected)),
         Err(_) => Err(Fail::from("a fault")),
     }
 }
 
+/// What a text is found to be: at 0 the listing of journals, and else the line that differs, and what should stand there.
+fn found<L: Ledger>(
+    alloc: Global,
+    text: Vec<u8>,
+    steps: &mut Steps<L>,
+) -> Result<(u32, Option<Bytes>), Fail> {
+    let mut shelf = shelf_of(alloc, text, 1_000, Vec::new(alloc))?;
+    let found = found_on(alloc, &mut shelf, steps);
+    drop(shelf);
+    found
+}
+
 /// A line in the place of another, and whether the line that should stand there is told.
 type Change = (usize, &'static [u8], bool);
 
-const CHANGES: [Change; 12] = [
+const CHANGES: &[Change] = &[
     (0, b"S X 4 4\n", false),
     (0, b"S X 3 04\n", false),
     (0, b"S Y 3 4\n", false),
@@ -100,6 +111,25 @@ const CHANGES: [Change; 12] = [
     (8, b"S Y 0 0", false),
 ];
 
+/// Whether the line of a change is the first that differs, and the line that should stand there is told where the change says so.
+fn is_told_at_its_line<L: Ledger>(
+    alloc: Global,
+    change: &Change,
+    steps: &mut Steps<L>,
+) -> Result<bool, Fail> {
+    let (place, text, is_told) = *change;
+    let right: &[u8] = match PART.get(place) {
+        Some(line) => line,
+        None => b"",
+    };
+    let (line, expected) = found(alloc, listing_with(alloc, place, text)?, steps)?;
+    let is_right = match &expected {
+        Some(expected) => is_told && right.starts_with(expected.as_slice()),
+        None => !is_told,
+    };
+    Ok(line as usize == place.saturating_add(1) && is_right)
+}
+
 fn look_at_lines<L: Ledger>(rt: &impl Abort, alloc: Global, blank: Blank) -> Result<(), Fail>
     requires name { blank.name ≡ L.name }
     requires parts { blank.parts ≡ L.parts }
@@ -108,17 +138,9 @@ fn look_at_lines<L: Ledger>(rt: &impl Abort, alloc: Global, blank: Blank) -> Res
     let mut steps = Steps::<L>::start(blank);
     let (line, _) = found(alloc, listing_with(alloc, PART.len(), b"")?, &mut steps)?;
     assert_eq!(rt; line, 0);
-    for (place, text, is_told) in CHANGES {
-        let (line, expected) = found(alloc, listing_with(alloc, place, text)?, &mut steps)?;
-        assert_eq!(rt; line as usize, place.saturating_add(1), "{text:?}");
-        assert_eq!(rt; expected.is_some(), is_told, "{text:?}");
-        if let Some(expected) = expected {
-            let right: &[u8] = match PART.get(place) {
-                Some(line) => line,
-                None => b"",
-            };
-            assert!(rt; right.starts_with(expected.as_slice()), "{text:?}");
-        }
+    for change in CHANGES {
+        let is_so = is_told_at_its_line(alloc, change, &mut steps)?;
+        assert!(rt; is_so, "{:?}", change.1);
     }
     Ok(())
 }
@@ -152,7 +174,7 @@ fn look_at_bytes<L: Ledger>(rt: &impl Abort, alloc: Global, blank: Blank) -> Res
             let (line, _) = found(alloc, listing, &mut steps)?;
             let line = line as usize;
             let is_fit = match text[0] {
-                b'R' => line == place + 1,
+                b'R' => line == place.saturating_add(1),
                 b'S' => line > place,
                 _ => line == 0 || line > place,
             };
@@ -167,6 +189,17 @@ fn a_changed_byte_is_told_at_its_line(rt: HostRuntime) -> Result<(), Fail> {
     look_at_bytes::<Brand>(&rt, rt.alloc(), Blank::new(1))
 }
 
+/// Whether a text differs first with this line.
+fn differs_at<L: Ledger>(
+    alloc: Global,
+    text: &[u8],
+    line: usize,
+    steps: &mut Steps<L>,
+) -> Result<bool, Fail> {
+    let (first, _) = found(alloc, Vec::from_slice(alloc, text)?, steps)?;
+    Ok(first as usize == line)
+}
+
 /// A listing that stops early differs behind its last whole line.
 fn look_at_fronts<L: Ledger>(rt: &impl Abort, alloc: Global, blank: Blank) -> Result<(), Fail>
     requires name { blank.name ≡ L.name }
@@ -178,10 +211,8 @@ fn look_at_fronts<L: Ledger>(rt: &impl Abort, alloc: Global, blank: Blank) -> Re
     let mut front = Vec::new(alloc);
     let mut lines = 0usize;
     for byte in whole.as_slice() {
-        let mut text = Vec::new(alloc);
-        text.extend_from_slice(front.as_slice())?;
-        let (line, _) = found(alloc, text, &mut steps)?;
-        assert_eq!(rt; line as usize, lines.saturating_add(1));
+        let is_so = differs_at(alloc, front.as_slice(), lines.saturating_add(1), &mut steps)?;
+        assert!(rt; is_so, "behind {lines} lines");
         front.push(*byte)?;
         if *byte == b'\n' {
             lines = lines.saturating_add(1);
@@ -201,6 +232,22 @@ pub(crate) const FILES: AuditFiles<'static> = AuditFiles {
     listing: "l",
 };
 
+/// What an audit of the whole listing comes to, in pieces of this size and with these calls failing.
+fn audited<L: Ledger>(
+    alloc: Global,
+    piece: usize,
+    fails: Vec<u64>,
+    steps: &mut Steps<L>,
+) -> Result<Result<Verdict, AuditRefusal>, Fail>
+    requires { 0 < piece }
+{
+    let text = listing_with(alloc, PART.len(), b"")?;
+    let mut shelf = shelf_of(alloc, text, piece, fails)?;
+    let verdict = audit(alloc, FILES, &mut shelf, steps);
+    drop(shelf);
+    Ok(verdict)
+}
+
 /// Files that come byte by byte, and with each call failing in turn.
 fn look_at_reads<L: Ledger>(rt: &impl Abort, alloc: Global, blank: Blank) -> Result<(), Fail>
     requires name { blank.name ≡ L.name }
@@ -208,16 +255,13 @@ fn look_at_reads<L: Ledger>(rt: &impl Abort, alloc: Global, blank: Blank) -> Res
     requires one { blank.parts ≡ 1 }
 {
     let mut steps = Steps::<L>::start(blank);
-    let text = listing_with(alloc, PART.len(), b"")?;
-    let mut shelf = shelf_of(alloc, text, 1, Vec::new(alloc))?;
-    let verdict = audit(alloc, FILES, &mut shelf, &mut steps);
-    assert!(rt; matches!(verdict, Ok(Verdict::Same)));
+    let is_whole = matches!(
+        audited(alloc, 1, Vec::new(alloc), &mut steps)?,
+        Ok(Verdict::Same)
+    );
+    assert!(rt; is_whole);
     for call in 1..20u64 {
-        let mut fails = Vec::new(alloc);
-        fails.push(call)?;
-        let text = listing_with(alloc, PART.len(), b"")?;
-        let mut shelf = shelf_of(alloc, text, 300, fails)?;
-        let is_fit = match audit(alloc, FILES, &mut shelf, &mut steps) {
+        let is_fit = match audited(alloc, 300, vec![in alloc; call]?, &mut steps)? {
             Ok(Verdict::Same) => call > 8,
             Err(AuditRefusal::Config(ConfigFault::ReadFault)) => call < 4,
             Err(AuditRefusal::Listing(AuditFault::ReadFault)) => 4 <= call && call <= 8,

@@ -12,6 +12,7 @@ use feed_work::{Pace, Unpaced};
 use feeds_core::{FeedsStatus, run_feeds};
 use io_edge::{MemShelf, MemSink};
 use std::alloc::{AllocError, Global};
+use std::str::from_utf8;
 use std::sync::Wait;
 use std::thread::Threads;
 
@@ -37,11 +38,61 @@ impl Ran {
             && self.out.bytes() == out.as_bytes()
             && self.err.bytes() == err.as_bytes()
     }
+
+    /// Its output, and nothing where that is no text.
+    fn text(&self) -> &str {
+        from_utf8(self.out.bytes()).unwrap_or("")
+    }
 }
 
 /// The name of a feed's file.
 fn feed_name(alloc: Global, number: usize) -> Result<String, AllocError> {
     format!(in alloc; "feed{number}")
+}
+
+/// The files of a config and of feeds.
+fn files_of(
+    alloc: Global,
+    config: &str,
+    feeds: &[&str],
+) -> Result<Vec<(String, Vec<u8>)>, AllocError> {
+    let mut files = Vec::new(alloc);
+    files.push((
+        String::from_str(alloc, "config")?,
+        Vec::from_slice(alloc, config.as_bytes())?,
+    ))?;
+    for (k, feed) in feeds.iter().enumerate() {
+        files.push((
+            feed_name(alloc, k)?,
+            Vec::from_slice(alloc, feed.as_bytes())?,
+        ))?;
+    }
+    Ok(files)
+}
+
+/// The names of a config's file and of so many feeds'.
+fn names_of(alloc: Global, feeds: usize) -> Result<Vec<String>, AllocError> {
+    let mut names = Vec::new(alloc);
+    names.push(String::from_str(alloc, "config")?)?;
+    for k in 0..feeds {
+        names.push(feed_name(alloc, k)?)?;
+    }
+    Ok(names)
+}
+
+/// Runs the files of these names.
+fn run_files<R: Threads + Wait + Sync, P: Pace + Sync>(
+    rt: &R,
+    alloc: Global,
+    pace: &P,
+    names: &[String],
+    shelf: &mut MemShelf,
+    fails: Fails,
+) -> Result<Ran, AllocError> {
+    let mut out = MemSink::new(alloc, vec![in alloc; fails.1]?);
+    let mut err = MemSink::new(alloc, vec![in alloc; fails.2]?);
+    let status = run_feeds(rt, alloc, names, pace, shelf, &mut out, &mut err);
+    Ok(Ran { status, out, err })
 }
 
 /// Runs a config and feeds in pieces of this size.
@@ -55,33 +106,13 @@ fn run_paced<R: Threads + Wait + Sync, P: Pace + Sync>(
 ) -> Result<Ran, AllocError>
     requires { 0 < piece }
 {
-    let mut files = Vec::new(alloc);
-    let mut words = Vec::new(alloc);
-    files.push((
-        String::from_str(alloc, "config")?,
-        Vec::from_slice(alloc, texts.0.as_bytes())?,
-    ))?;
-    words.push(String::from_str(alloc, "config")?)?;
-    for (k, feed) in texts.1.iter().enumerate() {
-        files.push((
-            feed_name(alloc, k)?,
-            Vec::from_slice(alloc, feed.as_bytes())?,
-        ))?;
-        words.push(feed_name(alloc, k)?)?;
-    }
-    let mut shelf = MemShelf::new(files, piece, vec![in alloc; fails.0]?);
-    let mut out = MemSink::new(alloc, vec![in alloc; fails.1]?);
-    let mut err = MemSink::new(alloc, vec![in alloc; fails.2]?);
-    let status = run_feeds(
-        rt,
-        alloc,
-        words.as_slice(),
-        pace,
-        &mut shelf,
-        &mut out,
-        &mut err,
-    );
-    Ok(Ran { status, out, err })
+    let calls = vec![in alloc; fails.0]?;
+    let names = names_of(alloc, texts.1.len())?;
+    let mut shelf = MemShelf::new(files_of(alloc, texts.0, texts.1)?, piece, calls);
+    let ran = run_files(rt, alloc, pace, names.as_slice(), &mut shelf, fails);
+    drop(shelf);
+    drop(names);
+    ran
 }
 
 /// Runs a config and feeds in large pieces.

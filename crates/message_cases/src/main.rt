@@ -53,14 +53,19 @@ fn play_word(
     )
 }
 
+/// The input that a text is, if it is one.
+fn input_of(alloc: Global, text: &str) -> Result<Option<Vec<u8>>, NoMemory> {
+    let text = expanded(alloc, text.as_bytes())?;
+    unescape(alloc, text.as_slice())
+}
+
 /// Tells what comes of a line.
 fn play(state: &mut State, line: &str, told: &mut Told) -> Result<(), NoMemory> {
     if line.is_empty() || line.starts_with('#') {
         return Ok(());
     }
     let (word, text) = line.split_once(' ').unwrap_or((line, ""));
-    let text = expanded(told.alloc, text.as_bytes())?;
-    match unescape(told.alloc, text.as_slice())? {
+    match &input_of(told.alloc, text)? {
         Some(input) => {
             if !play_word(state, word, input.as_slice(), told)? {
                 told.word("no such word");
@@ -75,17 +80,30 @@ fn out_of_memory(_: NoMemory) -> io::Error {
     io::Error::from(io::ErrorKind::OutOfMemory)
 }
 
-fn main(rt: HostRuntime) -> io::Result<()> {
-    let mut state = State::new(rt.alloc()).map_err(out_of_memory)?;
+/// Repeats a line with what comes of it.
+fn repeat_line(rt: &HostRuntime, state: &mut State, line: &str) -> io::Result<()> {
+    let mut told = Told::new(rt.alloc(), line)?;
+    play(state, line, &mut told).map_err(out_of_memory)?;
+    if told.is_short {
+        return Err(out_of_memory(NoMemory));
+    }
+    let text = told.text;
+    println!(rt; "{text}")?;
+    Ok(())
+}
+
+/// Repeats each line of standard input.
+fn repeat_lines(rt: &HostRuntime, state: &mut State) -> io::Result<()> {
     for line in rt.lines(rt.alloc()) {
         let line = line?;
-        let mut told = Told::new(rt.alloc(), line.as_str())?;
-        play(&mut state, line.as_str(), &mut told).map_err(out_of_memory)?;
-        if told.is_short {
-            return Err(out_of_memory(NoMemory));
-        }
-        let text = told.text;
-        println!(rt; "{text}")?;
+        repeat_line(rt, state, line.as_str())?;
     }
     Ok(())
+}
+
+fn main(rt: HostRuntime) -> io::Result<()> {
+    let mut state = State::new(rt.alloc()).map_err(out_of_memory)?;
+    let repeated = repeat_lines(&rt, &mut state);
+    drop(state);
+    repeated
 }

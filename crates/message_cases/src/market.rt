@@ -6,7 +6,9 @@ use fix_write::wrap;
 use io_edge::{MemShelf, MemSink};
 use market_data::{Snapshot, SnapshotRefusal, exit_code, market_feed, read_snapshot};
 use script_text::read_header;
+use session_core::Request;
 use std::alloc::{AllocError, Global};
+use std::mem::replace;
 use venue_words::NoMemory;
 
 /// Markets N and P, and symbol X.
@@ -21,28 +23,47 @@ fn tell_quotes(snapshot: &Snapshot, told: &mut Told) {
     }
 }
 
-/// Tells the quotes of a snapshot of that config, or why it is refused.
-fn tell_snapshot(content: &[u8], told: &mut Told) -> Result<(), NoMemory> {
-    let Ok((config, _)) = read_header(told.alloc, CONFIG) else {
-        return Err(NoMemory);
-    };
-    let frame = wrap(told.alloc, content)?;
-    let turn = Desk::logged_on(told.alloc)?.take(frame.as_slice())?;
-    let Some(request) = &turn.request else {
-        told.word("no message");
-        return Ok(());
-    };
-    match read_snapshot(told.alloc, request, &config) {
-        Ok(snapshot) => tell_quotes(&snapshot, told),
+/// What a message is read as with that config.
+fn read(alloc: Global, request: &Request<'_>) -> Result<Snapshot, SnapshotRefusal> {
+    match read_header(alloc, CONFIG) {
+        Ok((config, _)) => read_snapshot(alloc, request, &config),
+        Err(_) => Err(SnapshotRefusal::NoMemory),
+    }
+}
+
+/// Tells the quotes of what was read, or why it is refused.
+fn tell_read(read: &Result<Snapshot, SnapshotRefusal>, told: &mut Told) -> Result<(), NoMemory> {
+    match read {
+        Ok(snapshot) => tell_quotes(snapshot, told),
         Err(SnapshotRefusal::Reject { reason, tag }) => {
             told.word("refused by reason ");
-            told.show(&reason);
+            told.show(reason);
             told.push(" at ");
-            told.show(&tag);
+            told.show(tag);
         }
         Err(SnapshotRefusal::NoMemory) => return Err(NoMemory),
     }
     Ok(())
+}
+
+/// Tells what a message is read as, where there is one.
+fn tell_request(request: &Option<Request<'_>>, told: &mut Told) -> Result<(), NoMemory> {
+    match request {
+        Some(request) => tell_read(&read(told.alloc, request), told),
+        None => {
+            told.word("no message");
+            Ok(())
+        }
+    }
+}
+
+/// Tells the quotes of a snapshot of that config, or why it is refused.
+fn tell_snapshot(content: &[u8], told: &mut Told) -> Result<(), NoMemory> {
+    let frame = wrap(told.alloc, content)?;
+    let turn = Desk::turn_behind_logon(told.alloc, frame.as_slice())?;
+    let done = tell_request(&turn.request, told);
+    drop(turn);
+    done
 }
 
 /// The bytes of a market data session, and the config that it is read with.
@@ -72,10 +93,8 @@ impl Recording {
     /// A config `c` and an input `i`, in pieces of this size.
     fn shelf(&self, alloc: Global, piece: u32) -> Result<MemShelf, AllocError> {
         let mut files = Vec::new(alloc);
-        let config = Vec::from_slice(alloc, self.config.as_slice())?;
-        files.push((String::from_str(alloc, "c")?, config))?;
-        let stream = Vec::from_slice(alloc, self.stream.as_slice())?;
-        files.push((String::from_str(alloc, "i")?, stream))?;
+        files.push(file(alloc, "c", self.config.as_slice())?)?;
+        files.push(file(alloc, "i", self.stream.as_slice())?)?;
         Ok(MemShelf::new(files, (piece as usize).max(1), Vec::new(alloc)))
     }
 
@@ -88,6 +107,12 @@ impl Recording {
         tell_feed(names.as_slice(), &mut shelf, told);
         Ok(())
     }
+}
+
+/// A file with this name and these bytes.
+fn file(alloc: Global, name: &str, bytes: &[u8]) -> Result<(String, Vec<u8>), AllocError> {
+    let name = String::from_str(alloc, name)?;
+    Ok((name, Vec::from_slice(alloc, bytes)?))
 }
 
 /// The words behind the first one.
@@ -122,7 +147,7 @@ pub fn play(
 ) -> Result<bool, NoMemory> {
     match word {
         "snapshot" => tell_snapshot(input, told)?,
-        "recording" => *recording = Recording::new(told.alloc, input)?,
+        "recording" => drop(replace(recording, Recording::new(told.alloc, input)?)),
         "recorded" => recording.push(told.alloc, input)?,
         "market_feed" => recording.run(input, told)?,
         _ => return Ok(false),

@@ -8,6 +8,7 @@ use exec_reports::{body, kind};
 use fix_write::wrap;
 use order_fields::{Decoded, Known, Refusal, read_order, verdict};
 use script_text::read_header;
+use session_core::Request;
 use std::alloc::Global;
 use venue_words::{Command, Config, NoMemory, Report, Side};
 
@@ -24,17 +25,27 @@ fn config_of(alloc: Global) -> Result<Config, NoMemory>
     }
 }
 
-/// What a message of member A behind its Logon is read as, at the moment 7.
-fn read(alloc: Global, content: &[u8]) -> Result<Result<Decoded, Refusal>, NoMemory> {
+/// What a message that was handed out is read as.
+fn read_request(
+    alloc: Global,
+    request: &Option<Request<'_>>,
+) -> Result<Result<Decoded, Refusal>, NoMemory> {
     let config = config_of(alloc)?;
-    let frame = wrap(alloc, content)?;
-    let turn = Desk::logged_on(alloc)?.take(frame.as_slice())?;
-    match &turn.request {
+    match request {
         Some(request) if config.symbols.len() == 1 => {
             Ok(read_order(alloc, request, 0, &config, 7))
         }
         _ => Err(NoMemory),
     }
+}
+
+/// What a message of member A behind its Logon is read as, at the moment 7.
+fn read(alloc: Global, content: &[u8]) -> Result<Result<Decoded, Refusal>, NoMemory> {
+    let frame = wrap(alloc, content)?;
+    let turn = Desk::turn_behind_logon(alloc, frame.as_slice())?;
+    let decoded = read_request(alloc, &turn.request);
+    drop(turn);
+    decoded
 }
 
 /// Tells the type and the body of a report about a symbol to member A.
@@ -74,6 +85,33 @@ fn tell_decoded(decoded: &Decoded, told: &mut Told) -> Result<(), NoMemory> {
     }
 }
 
+/// Tells what a message asks for, or why it is refused.
+fn tell_order(content: &[u8], told: &mut Told) -> Result<(), NoMemory> {
+    match &read(told.alloc, content)? {
+        Ok(decoded) => tell_decoded(decoded, told),
+        Err(refusal) => {
+            told.code(refusal);
+            Ok(())
+        }
+    }
+}
+
+/// Tells the first rule that a message breaks where this is known.
+fn tell_first_rule(content: &[u8], known: &Known, told: &mut Told) -> Result<(), NoMemory> {
+    if known.tick != 2 && known.tick != 10 {
+        told.word("no tick");
+        return Ok(());
+    }
+    match &read(told.alloc, content)? {
+        Ok(Decoded::Book { command, .. }) => match verdict(command, known) {
+            Some(rule) => told.value(&rule.number()),
+            None => told.word("none"),
+        },
+        _ => told.word("not for a book"),
+    }
+    Ok(())
+}
+
 /// Tells the first rule that a message breaks: `rule [used] [live] [cum=NUMBER] tick=NUMBER CONTENT`.
 fn tell_rule(input: &[u8], told: &mut Told) -> Result<(), NoMemory> {
     let words = Words::new(told.alloc, input)?;
@@ -84,29 +122,14 @@ fn tell_rule(input: &[u8], told: &mut Told) -> Result<(), NoMemory> {
         cum: words.number(b"cum").unwrap_or(0),
         tick: words.number(b"tick").unwrap_or(0),
     };
-    if known.tick != 2 && known.tick != 10 {
-        told.word("no tick");
-        return Ok(());
-    }
     let content = words.list.last().copied().unwrap_or(&[]);
-    let Ok(Decoded::Book { command, .. }) = read(told.alloc, content)? else {
-        told.word("not for a book");
-        return Ok(());
-    };
-    match verdict(&command, &known) {
-        Some(rule) => told.value(&rule.number()),
-        None => told.word("none"),
-    }
-    Ok(())
+    tell_first_rule(content, &known, told)
 }
 
 /// `order` tells what a message asks for, and `rule` the first rule that it breaks.
 pub fn play(word: &str, input: &[u8], told: &mut Told) -> Result<bool, NoMemory> {
     match word {
-        "order" => match read(told.alloc, input)? {
-            Ok(decoded) => tell_decoded(&decoded, told)?,
-            Err(refusal) => told.code(&refusal),
-        },
+        "order" => tell_order(input, told)?,
         "rule" => tell_rule(input, told)?,
         _ => return Ok(false),
     }

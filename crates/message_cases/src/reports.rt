@@ -2,7 +2,8 @@
 use crate::orders::tell_report;
 use case_text::{Told, Words};
 use fix_fields::{amount, number};
-use std::alloc::AllocError;
+use std::alloc::{AllocError, Global};
+use std::str::from_utf8;
 use venue_words::{
     Execution, Kind, LiveOrder, NamedOrder, NoMemory, OrderStatus, RULES, RefusedRequest, Report,
     Rule, Side, View,
@@ -38,21 +39,26 @@ fn view_of(words: &Words<'_>) -> Result<View, AllocError> {
     })
 }
 
+/// The word behind event and place, and nothing where it is no text.
+fn what_of<'a>(words: &Words<'a>) -> &'a str {
+    from_utf8(words.at(2)).unwrap_or("")
+}
+
 /// What became of an order, by the word behind event and place.
 fn execution_of(words: &Words<'_>) -> Result<Execution, AllocError> {
-    Ok(match words.at(2) {
-        b"accepted" => Execution::Accepted,
-        b"traded" => Execution::Traded {
+    Ok(match what_of(words) {
+        "accepted" => Execution::Accepted,
+        "traded" => Execution::Traded {
             quantity: words.number(b"shares").unwrap_or(0),
             price: words.number(b"at").unwrap_or(0),
         },
-        b"canceled" => Execution::Canceled {
+        "canceled" => Execution::Canceled {
             orig: match words.value(b"orig") {
                 Some(_) => Some(words.id(b"orig")?),
                 None => None,
             },
         },
-        b"replaced" => Execution::Replaced {
+        "replaced" => Execution::Replaced {
             orig: words.id(b"orig")?,
         },
         _ => Execution::Status,
@@ -88,23 +94,36 @@ fn refused_of(words: &Words<'_>, request: RefusedRequest) -> Result<Kind, AllocE
 
 /// What a report says, by the word behind event and place.
 fn kind_of(words: &Words<'_>) -> Result<Kind, AllocError> {
-    Ok(match words.at(2) {
-        b"rejected" => Kind::Rejected {
+    Ok(match what_of(words) {
+        "rejected" => Kind::Rejected {
             id: words.id(b"id")?,
             side: words.byte(b"side"),
             quantity: words.value(b"quantity").and_then(amount).unwrap_or(0),
             rule: rule_of(words),
         },
-        b"unknown" => Kind::Unknown {
+        "unknown" => Kind::Unknown {
             id: words.id(b"id")?,
             side: words.byte(b"side"),
         },
-        b"refused_cancel" => refused_of(words, RefusedRequest::Cancel)?,
-        b"refused_replace" => refused_of(words, RefusedRequest::Replace)?,
+        "refused_cancel" => refused_of(words, RefusedRequest::Cancel)?,
+        "refused_replace" => refused_of(words, RefusedRequest::Replace)?,
         _ => Kind::Order {
             view: view_of(words)?,
             execution: execution_of(words)?,
         },
+    })
+}
+
+/// The report that an input says.
+fn report_of(alloc: Global, input: &[u8]) -> Result<Report, AllocError> {
+    let words = Words::new(alloc, input)?;
+    let kind = kind_of(&words)?;
+    Ok(Report {
+        event: number(words.at(0)).unwrap_or(0),
+        place: number(words.at(1)).unwrap_or(0),
+        member: 0,
+        moment: MOMENT,
+        kind,
     })
 }
 
@@ -114,15 +133,10 @@ pub fn play(word: &str, input: &[u8], told: &mut Told) -> Result<bool, NoMemory>
     if word != "report" {
         return Ok(false);
     }
-    let words = Words::new(told.alloc, input)?;
-    let event = number(words.at(0)).unwrap_or(0);
-    let report = Report {
-        event,
-        place: number(words.at(1)).unwrap_or(0),
-        member: 0,
-        moment: MOMENT,
-        kind: kind_of(&words)?,
-    };
-    tell_report(&report, if event == 0 { b"ZZ" } else { b"X" }, told)?;
+    let report = report_of(told.alloc, input)?;
+    let symbol: &[u8] = if report.event == 0 { b"ZZ" } else { b"X" };
+    let done = tell_report(&report, symbol, told);
+    drop(report);
+    done?;
     Ok(true)
 }

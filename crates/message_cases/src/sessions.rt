@@ -6,6 +6,7 @@ use fix_write::{MessageType, wrap};
 use message_laws::work_all;
 use session_core::{Input, Message, Request, Session, Turn};
 use std::alloc::Global;
+use std::mem::replace;
 use venue_words::{Bytes, Items, NoMemory};
 
 /// 2024-01-02 14:30:00 UTC, the moment at which all is done.
@@ -34,10 +35,19 @@ impl Desk {
 
     /// A session that took its Logon.
     pub fn logged_on(alloc: Global) -> Result<Desk, NoMemory> {
-        let mut desk = Desk::new(alloc)?;
         let frame = wrap(alloc, LOGON)?;
-        let _ = desk.take(frame.as_slice())?;
+        let mut desk = Desk::new(alloc)?;
+        let turn = desk.take(frame.as_slice());
+        drop(turn?);
         Ok(desk)
+    }
+
+    /// What a frame gives behind the Logon.
+    pub fn turn_behind_logon<'a>(alloc: Global, frame: &'a [u8]) -> Result<Turn<'a>, NoMemory> {
+        let mut desk = Desk::logged_on(alloc)?;
+        let turn = desk.take(frame);
+        drop(desk);
+        turn
     }
 
     /// What a frame gives.
@@ -46,6 +56,19 @@ impl Desk {
             Some(frame) => self.session.take(frame, START),
             None => Err(NoMemory),
         }
+    }
+
+    /// Tells what the frame of a content gives.
+    fn take_content(&mut self, content: &[u8], told: &mut Told) -> Result<(), NoMemory> {
+        let frame = wrap(told.alloc, content)?;
+        tell_turn(&self.take(frame.as_slice())?, told);
+        Ok(())
+    }
+
+    /// Tells what this moment gives.
+    fn tick(&mut self, moment: i64, told: &mut Told) -> Result<(), NoMemory> {
+        tell_turn(&self.session.tick(moment)?, told);
+        Ok(())
     }
 
     fn send(&mut self, input: &[u8], told: &mut Told) -> Result<(), NoMemory> {
@@ -164,15 +187,12 @@ fn tell_turn(turn: &Turn<'_>, told: &mut Told) {
 pub fn play(desk: &mut Desk, word: &str, input: &[u8], told: &mut Told) -> Result<bool, NoMemory> {
     let alloc = told.alloc;
     match word {
-        "session" => *desk = Desk::new(alloc)?,
-        "logged_on" => *desk = Desk::logged_on(alloc)?,
-        "take" => {
-            let frame = wrap(alloc, input)?;
-            tell_turn(&desk.take(frame.as_slice())?, told);
-        }
+        "session" => drop(replace(desk, Desk::new(alloc)?)),
+        "logged_on" => drop(replace(desk, Desk::logged_on(alloc)?)),
+        "take" => desk.take_content(input, told)?,
         "send" => desk.send(input, told)?,
         "open" => desk.session.open(),
-        "tick" => tell_turn(&desk.session.tick(moment(input).unwrap_or(0))?, told),
+        "tick" => desk.tick(moment(input).unwrap_or(0), told)?,
         "phase" => told.word(desk.phase()),
         "feed" => desk.feed(input, told)?,
         "hear" => desk.hear(input, told)?,

@@ -41,31 +41,40 @@ fn session(alloc: Global) -> Result<Vec<u8>, AllocError> {
     Ok(bytes)
 }
 
-/// What the session comes to as a feed of quotes.
-fn feed_of_session(alloc: Global) -> Result<(MarketStatus, MemSink), AllocError> {
+/// A config and the session.
+fn files_of_session(alloc: Global) -> Result<Vec<(String, Vec<u8>)>, AllocError> {
     let mut files = Vec::new(alloc);
     files.push((
         String::from_str(alloc, "config")?,
         Vec::from_slice(alloc, CONFIG.as_bytes())?,
     ))?;
     files.push((String::from_str(alloc, "session")?, session(alloc)?))?;
+    Ok(files)
+}
+
+/// What the session comes to as a feed of quotes.
+fn feed_of_session(alloc: Global) -> Result<(MarketStatus, MemSink), AllocError> {
     let mut words = Vec::new(alloc);
     for word in ["config", "SIP", "session"] {
         words.push(String::from_str(alloc, word)?)?;
     }
-    let mut shelf = MemShelf::new(files, 64, Vec::new(alloc));
+    let mut shelf = MemShelf::new(files_of_session(alloc)?, 64, Vec::new(alloc));
     let mut out = MemSink::new(alloc, Vec::new(alloc));
     let mut err = MemSink::new(alloc, Vec::new(alloc));
     let status = market_feed(alloc, words.as_slice(), &mut shelf, &mut out, &mut err);
     Ok((status, out))
 }
 
+/// Whether the session comes to that feed.
+fn comes_to_the_feed(alloc: Global) -> Result<bool, AllocError> {
+    let (status, feed) = feed_of_session(alloc)?;
+    Ok(status == MarketStatus::Done && feed.bytes() == FEED.as_bytes())
+}
+
 #[test]
 fn the_feed_of_a_recorded_session_is_run(rt: HostRuntime) -> Result<(), Fail> {
     let alloc = rt.alloc();
-    let (status, feed) = feed_of_session(alloc)?;
-    let is_feed = feed.bytes() == FEED.as_bytes();
-    assert!(rt; status == MarketStatus::Done && is_feed, "{status:?}");
+    assert!(rt; comes_to_the_feed(alloc)?);
     let ran = run(&rt, alloc, CONFIG, &[FEED])?;
     assert!(rt;
         ran.came_to(FeedsStatus::Done, LISTING, ""),

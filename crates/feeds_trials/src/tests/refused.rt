@@ -75,8 +75,8 @@ fn first_wrong<R: Threads + Wait + Sync>(
     cases: &[Case],
 ) -> Result<Option<usize>, AllocError> {
     for (place, (config, feeds, told)) in cases.iter().enumerate() {
-        let ran = run(rt, alloc, config, feeds)?;
         let text = format!(in alloc; "pegvenue: {told}\n")?;
+        let ran = run(rt, alloc, config, feeds)?;
         if ran.err.bytes() != text.as_bytes() || !ran.out.bytes().is_empty() {
             return Ok(Some(place));
         }

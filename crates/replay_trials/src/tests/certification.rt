@@ -2,7 +2,7 @@
 use super::{Worked, check_all};
 use std::test::Fail;
 
-const CERTIFICATION: &[Worked] = &[
+const CERTIFICATION_1: &[Worked] = &[
     Worked {
         name: "a fill or kill order is killed",
         script: "PEGV 1
@@ -181,6 +181,14 @@ FUND 8=FIXT.1.1|9=60|35=2|49=PEGV|56=FUND|34=2|52=20240102-14:30:00.000|7=2|16=0
         told: "",
         status: 0,
     },
+];
+
+#[test]
+fn a_members_system_is_answered_1(rt: HostRuntime) -> Result<(), Fail> {
+    check_all(&rt, rt.alloc(), CERTIFICATION_1)
+}
+
+const CERTIFICATION_2: &[Worked] = &[
     Worked {
         name: "messages that are rejected",
         script: "PEGV 1
@@ -325,6 +333,6 @@ FUND 8=FIXT.1.1|9=210|35=8|49=PEGV|56=FUND|34=4|52=20240102-14:30:05.000|43=Y|12
 ];
 
 #[test]
-fn a_members_system_is_answered(rt: HostRuntime) -> Result<(), Fail> {
-    check_all(&rt, rt.alloc(), CERTIFICATION)
+fn a_members_system_is_answered_2(rt: HostRuntime) -> Result<(), Fail> {
+    check_all(&rt, rt.alloc(), CERTIFICATION_2)
 }

@@ -71,6 +71,19 @@ fn front(text: &str, end: usize) -> &[u8] {
     &text.as_bytes()[..end.min(text.len())]
 }
 
+/// Whether a run ends so, with this output and with this told.
+fn ends_so(
+    alloc: Global,
+    script: &str,
+    fails: (u64, u64, u64),
+    status: Status,
+    output: &[u8],
+    told: &str,
+) -> Result<bool, AllocError> {
+    let (got, out, err) = played(alloc, script, fails)?;
+    Ok(got == status && out.bytes() == output && err.bytes() == told.as_bytes())
+}
+
 /// A run ends so, with this output and with what is told of it, where it can be told.
 fn check_failed(
     rt: &impl Abort,
@@ -80,16 +93,14 @@ fn check_failed(
     status: Status,
     output: &[u8],
 ) -> Result<(), Fail> {
-    let (got, out, err) = played(alloc, script, fails)?;
-    assert!(rt; got == status, "at {fails:?}");
-    assert_eq!(rt; out.bytes(), output, "at {fails:?}");
     let text = match status {
         _ if fails.2 != 0 => "",
         Status::ReadFault => "pegreplay: read fault\n",
         Status::WriteFault => "pegreplay: write fault\n",
         _ => "",
     };
-    assert_eq!(rt; err.bytes(), text.as_bytes());
+    let is_so = ends_so(alloc, script, fails, status, output, text)?;
+    assert!(rt; is_so, "at {fails:?}");
     Ok(())
 }
 

@@ -2,9 +2,30 @@
 use crate::tests::{HEADER, run, shelf};
 use io_edge::MemSink;
 use replay_core::status::Status;
-use std::alloc::Global;
+use std::alloc::{AllocError, Global};
 use std::process::Abort;
 use std::test::Fail;
+
+/// Runs with these words, and gives the output and what was told.
+fn played(alloc: Global, words: &[&str]) -> Result<(Status, MemSink, MemSink), AllocError> {
+    let mut shelf = shelf(alloc, HEADER, 64, Vec::new(alloc))?;
+    let mut out = MemSink::new(alloc, Vec::new(alloc));
+    let mut err = MemSink::new(alloc, Vec::new(alloc));
+    let status = run(alloc, words, &mut shelf, &mut out, &mut err)?;
+    Ok((status, out, err))
+}
+
+/// Whether a run with these words ends so, with this output and with this told.
+fn ends_so(
+    alloc: Global,
+    words: &[&str],
+    status: Status,
+    line: &str,
+    told: &str,
+) -> Result<bool, AllocError> {
+    let (got, out, err) = played(alloc, words)?;
+    Ok(got == status && out.bytes() == line.as_bytes() && err.bytes() == told.as_bytes())
+}
 
 /// Runs with these words, and looks at the output and at what is told.
 fn check(
@@ -15,13 +36,8 @@ fn check(
     line: &str,
     told: &str,
 ) -> Result<(), Fail> {
-    let mut shelf = shelf(alloc, HEADER, 64, Vec::new(alloc))?;
-    let mut out = MemSink::new(alloc, Vec::new(alloc));
-    let mut err = MemSink::new(alloc, Vec::new(alloc));
-    let got = run(alloc, words, &mut shelf, &mut out, &mut err)?;
-    assert!(rt; got == status, "{words:?}");
-    assert_eq!(rt; out.bytes(), line.as_bytes(), "{words:?}");
-    assert_eq!(rt; err.bytes(), told.as_bytes(), "{words:?}");
+    let is_so = ends_so(alloc, words, status, line, told)?;
+    assert!(rt; is_so, "{words:?}");
     Ok(())
 }
 

@@ -2,7 +2,7 @@
 use super::{Worked, check_all};
 use std::test::Fail;
 
-const PRICES: &[Worked] = &[
+const PRICES_1: &[Worked] = &[
     Worked {
         name: "a mid peg of side 1 is rounded by 1",
         script: "PEGV 1
@@ -193,6 +193,14 @@ A 8=FIXT.1.1|9=180|35=8|49=PEGV|56=A|34=5|52=20240102-14:30:00.000|37=X-2|11=a1|
         told: "",
         status: 0,
     },
+];
+
+#[test]
+fn orders_follow_the_quote_1(rt: HostRuntime) -> Result<(), Fail> {
+    check_all(&rt, rt.alloc(), PRICES_1)
+}
+
+const PRICES_2: &[Worked] = &[
     Worked {
         name: "prices at the ends of their range",
         script: "PEGV 1
@@ -355,6 +363,6 @@ D 8=FIXT.1.1|9=179|35=8|49=PEGV|56=D|34=4|52=20240102-14:30:00.000|37=X-7|11=d1|
 ];
 
 #[test]
-fn orders_follow_the_quote(rt: HostRuntime) -> Result<(), Fail> {
-    check_all(&rt, rt.alloc(), PRICES)
+fn orders_follow_the_quote_2(rt: HostRuntime) -> Result<(), Fail> {
+    check_all(&rt, rt.alloc(), PRICES_2)
 }
