@@ -14,8 +14,7 @@ use frames::{bytes_of, frames_of, have_contents};
 use member_gate::{Desk, DeskRefusal};
 use script_text::read_header;
 use sequences::{
-    FULL, GAP_AND_TICK, NEXT_CONNECTION, NOT_TOO_LONG, REFUSALS, RESEND, TOO_LONG, TOO_LOW,
-    UNKNOWN,
+    FULL, GAP_AND_TICK, NEXT_CONNECTION, NOT_TOO_LONG, REFUSALS, RESEND, TOO_LONG, TOO_LOW, UNKNOWN,
 };
 use std::alloc::Global;
 use std::marker::Brand;

@@ -67,7 +67,10 @@ impl Event {
     /// Whether a line is its report.
     fn is_told_by(&self, alloc: Global, line: &str) -> Result<bool, AllocError> {
         let Event {
-            number, member, id, ..
+            number,
+            member,
+            id,
+            ..
         } = self;
         let told = format!(in alloc;
             "R X {number} 1 {member} 8 37=X-{number}|11={id}|17=X-{number}-1|150=0|39=0|55=X|54=1|38=100|40=P|151=100|14=0|6=0.0000|60=20240102-14:30:00.000|9701={number}|"
