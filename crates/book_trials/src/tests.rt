@@ -3,5 +3,6 @@ mod blocked;
 mod comparing;
 mod limits;
 mod load;
+mod matching;
 mod orders;
 mod random;

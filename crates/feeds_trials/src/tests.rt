@@ -5,6 +5,7 @@ mod failing;
 mod full;
 mod many;
 mod market;
+mod market_sessions;
 mod paced;
 mod refused;
 

@@ -2,6 +2,7 @@
 ghost use Rattle.std.specs.Prelude.{◌≡◌, ◌<◌};
 
 mod certification;
+mod days;
 mod failing;
 mod hostile;
 mod in_pieces;

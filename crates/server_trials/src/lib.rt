@@ -1,4 +1,4 @@
-//! The server over loopback: nothing but tests.
+//! Trials of connections: sessions over links in memory, and the server over loopback. All of it is tests.
 #![tactic(auto)]
 
 #[cfg(test)]

@@ -3,6 +3,8 @@ ghost use Rattle.std.specs.Prelude.{◌<◌, ◌≤◌, length, IfOk};
 ghost use Rattle.venue_words.specs.Conditions.{IsConfig};
 ghost use Rattle.drop_copy.specs.Desks.{AreConfigured};
 
+mod links;
+
 use drop_copy::{DropDesk, DropPlan};
 use fix_write::wrap;
 use io_edge::MemSink;

@@ -1,4 +1,0 @@
-use Rattle.matching_trials.proofs.tests.moves.a_dip_below_a_limit_and_back_is_a_change.Given as goal
-
-abbrev pub ghosts-count_example : goal.ghosts-count_example
-ghosts-count_example g a = record { name = a.blank.name; parts = a.blank.parts }

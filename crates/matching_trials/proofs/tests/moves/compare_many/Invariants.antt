@@ -1,5 +1,0 @@
-use Rattle.std.proofs.Common.{◌<◌}
-use Rattle.matching_trials.proofs.tests.moves.compare_many.Given as goal
-
-abbrev pub invariant-loop-event : goal.invariant-loop-event
-invariant-loop-event g l = l.moves.latest < l.event

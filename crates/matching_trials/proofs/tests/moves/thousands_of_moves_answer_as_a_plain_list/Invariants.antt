@@ -1,4 +1,0 @@
-use Rattle.matching_trials.proofs.tests.moves.thousands_of_moves_answer_as_a_plain_list.Given as goal
-
-abbrev pub ghosts-count_many : goal.ghosts-count_many
-ghosts-count_many g a = record { name = a.blank.name; parts = a.blank.parts }

@@ -1,5 +1,0 @@
-use Rattle.matching_trials.proofs.Later.{later_first}
-use Rattle.matching_trials.proofs.tests.sides.long_run.Goals as goal
-
-pub loop-event-init : goal.loop-event-init
-loop-event-init g c = rw c.requires later_first

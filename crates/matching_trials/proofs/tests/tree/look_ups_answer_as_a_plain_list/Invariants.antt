@@ -1,4 +1,0 @@
-use Rattle.matching_trials.proofs.tests.tree.look_ups_answer_as_a_plain_list.Given as goal
-
-abbrev pub ghosts-count_steps : goal.ghosts-count_steps
-ghosts-count_steps g a = record { name = a.blank.name; parts = a.blank.parts }

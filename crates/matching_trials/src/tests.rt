@@ -1,6 +1,0 @@
-//! One module for each crate that is tried.
-mod checks;
-mod moves;
-mod random;
-mod sides;
-mod tree;
