@@ -1,4 +1,4 @@
-use Rattle.std.proofs.Common.{◌≡◌, ◌<◌, ◌≤◌, ◌∷◌, ◌++◌, refl, ap, sym, ◌∙◌, arith}
+use Rattle.std.proofs.Common.{◌≡◌, ◌<◌, ◌≤◌, ◌∷◌, ◌++◌, refl, ap, sym, ◌∙◌, arith, rules}
 use Rattle.std.proofs.lemmas.Bool.{ltb-true, ltb-false}
 use Rattle.limit_tree.specs.Link.{link_rows}
 use Rattle.limit_tree.specs.Order.{row_rank, insert_row, least_entry}
@@ -88,3 +88,9 @@ returns-else-side-top-clause-rows g t c =
           let h : row_rank c.top.inside.row ≤ row_rank x = rw (c.deref-in-Some.ensures, ← c.top.view_is) at (ltb-false _ _ (sym w.if-is_before.ensures)) in
           rw (c.rejoin.ensures.rows, c.take-left.ensures.value, c.take-left.ensures.after, c.take-right.ensures.value, c.take-right.ensures.after, w.top-inside-is, w.put_into-else-is_before.ensures.rows) (sym (insert_to_right x s h))
     ]
+
+pub returns-then-side-top-clause-each : goal.returns-then-side-top-clause-each
+returns-then-side-top-clause-each g t c = search rules
+
+pub returns-else-side-top-clause-each : goal.returns-else-side-top-clause-each
+returns-else-side-top-clause-each g t c = search rules

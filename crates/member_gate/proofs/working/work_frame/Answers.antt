@@ -1,4 +1,3 @@
--- The session's replies and then the answer are added. A refusal leaves the session behind the frame or as it was.
 use Rattle.std.proofs.Common.{◌≡◌, ◌∙◌, List, Some, sym, subst, w64, to_z, of_z, rules}
 use Rattle.std.proofs.lemmas.Result.{err_from_is_err_and}
 use Rattle.std.specs.Option.{option_to_list}
@@ -8,6 +7,9 @@ use Rattle.member_gate.specs.Submitting.{TookAll, TookNone}
 use Rattle.member_gate.proofs.Framing.{reply_added, frame_session, frame_submits, gave_up_behind}
 use Rattle.member_gate.proofs.Taking.{none_taken}
 use Rattle.member_gate.proofs.working.work_frame.Goals as goal
+use Rattle.member_gate.specs.Working.{work_of_frame}
+
+-- The session's replies and then the answer are added. A refusal leaves the session behind the frame or as it was.
 
 pub returns-in-Some-2-clause-replies : goal.returns-in-Some-2-clause-replies
 returns-in-Some-2-clause-replies g c =
@@ -85,3 +87,7 @@ returns-in-Some-2-clause-took g c =
     (sym same)
     (subst (λ (r : Request). TookAll g.F.Floor.at g.F.Floor.step_limit (g.F.Floor.mark c.args.floor.now) origin.feed origin.moment (answer origin.config.now origin.member origin.moment c.take.new.self r).submissions (c.args.floor.now, c.args.steps.now) (c.answer.new.floor, c.answer.new.steps))
     c.in-Some.request-is c.in_ok-reply.ensures.took)
+
+pub returns-clause-count : goal.returns-clause-count
+unfolding work_of_frame
+returns-clause-count g c = search rules

@@ -11,3 +11,7 @@ answered c = search rules
 pub returns-in-Ok-clause-submittable : goal.returns-in-Ok-clause-submittable
 returns-in-Ok-clause-submittable c = λ config member.
     can_submit c.args.request.now c.args.member c.args.config.now c.args.moment c.in-Ok.decoded config member (answered c)
+
+pub returns-in-Some-clause-order : goal.returns-in-Some-clause-order
+unfolding order
+returns-in-Some-clause-order c = search rules

@@ -1,10 +1,12 @@
--- One more entry, by what its frames are and what is left, and behind the last entry the run that is open.
-use Rattle.std.proofs.Common.{◌≡◌, ℕ, ◌+◌, ◌<◌, ◌++◌, min, List, Option, length, get_or, drop, take, refl, sym, ◌∙◌, append_assoc, arith}
+use Rattle.std.proofs.Common.{◌≡◌, ℕ, ◌+◌, ◌<◌, ◌++◌, min, List, Option, length, get_or, drop, take, refl, sym, ◌∙◌, append_assoc, arith, rules}
+use Rattle.std.proofs.lemmas.Grind.{common_steps}
 use Rattle.std.proofs.lemmas.List.{drop_more, length-take, get_or-take}
 use Rattle.std.specs.Prelude.{ℤ}
 use Rattle.session_core.specs.declared.message.Kept.{Kept}
 use Rattle.session_core.specs.Resent.{frames_at, frames_from, run_behind}
 use Rattle.session_core.proofs.resent.old_frames.Goals as goal
+
+-- One more entry, by what its frames are and what is left, and behind the last entry the run that is open.
 
 one_more : (member : List ℕ) (moment : ℤ) (run after : Option ℕ) (number i last : ℕ) (sent : List (Option Kept)) (entry : Option Kept) (before items : List (List ℕ)) →
     i < min last (length sent) → entry ≡ get_or sent i entry →
@@ -27,3 +29,10 @@ loop-index-preserved c = record {
       (omega arith) c.get-entry.ensures e.frames e.run
       ∙ m.invariant.framed;
 }
+
+pub loop-index-init : goal.loop-index-init
+loop-index-init c = search rules
+
+pub returns : goal.returns
+unfolding frames_from
+returns c = grind (arith, common_steps)

@@ -14,3 +14,9 @@ load-served-requires g c =
           (ap (λ (m : SeatAndSlot g.row.V.Denot). m.0.opening) same ∙ r.opened) (ap (λ (m : SeatAndSlot g.row.V.Denot). m.1) same ∙ r.no_slot)
           (subst (λ (m : SeatAndSlot g.row.V.Denot). 0 < m.0.part) (sym same) r.part),
     )
+
+pub lift-requires-clause-full : goal.lift-requires-clause-full
+lift-requires-clause-full g c = search rules
+
+pub loop-preserved : goal.loop-preserved
+loop-preserved g c = search rules

@@ -1,4 +1,4 @@
-use Rattle.std.proofs.Common.{◌≡◌, ◌+◌, true, false, [], ◌∷◌, ◌++◌, length, sym, ◌∙◌, ap, subst}
+use Rattle.std.proofs.Common.{◌≡◌, ◌+◌, true, false, [], ◌∷◌, ◌++◌, length, sym, ◌∙◌, ap, subst, rules}
 use Rattle.day_journal.specs.Disk.{Torn, LeavesOnly, overwritten}
 use Rattle.day_journal.specs.Log.{reading, intact, IsBeforeOrAfter}
 use Rattle.day_journal.specs.LogView.{LogView, IsAtRest}
@@ -84,3 +84,15 @@ invariant_of-self-2 g c =
           let staged = c.in_ok-write_through.ensures.written honest ∙ ap (λ b. overwritten old.seen (gate + 1) b) is_block in
           rests_again old gate line rest c.requires.line mid new staged (c.in_ok-write_through-2.ensures.written honest_mid) (c.in_ok-write_through-2.ensures.durable honest_mid),
     )
+
+pub invariant_of-self : goal.invariant_of-self
+invariant_of-self g c = search rules
+
+pub returns-in_err-write_through-clause-spent : goal.returns-in_err-write_through-clause-spent
+returns-in_err-write_through-clause-spent g c = search rules
+
+pub invariant_of-self-in_err-write_through-2 : goal.invariant_of-self-in_err-write_through-2
+invariant_of-self-in_err-write_through-2 g c = search rules
+
+pub returns-in_err-write_through-2-clause-spent : goal.returns-in_err-write_through-2-clause-spent
+returns-in_err-write_through-2-clause-spent g c = search rules

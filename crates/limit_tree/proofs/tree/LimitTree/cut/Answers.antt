@@ -1,4 +1,4 @@
-use Rattle.std.proofs.Common.{◌≡◌, ◌≢◌, sym, ◌∙◌}
+use Rattle.std.proofs.Common.{◌≡◌, ◌≢◌, sym, ◌∙◌, rules}
 use Rattle.limit_tree.specs.Link.{link_rows}
 use Rattle.limit_tree.specs.Order.{highest_cap}
 use Rattle.limit_tree.proofs.Highest.{highest-without}
@@ -9,3 +9,6 @@ invariant_of-self-else-cap-self g c =
     let old : highest_cap (link_rows c.self.inside.root) ≡ c.self.inside.greatest = sym c.self.invariant in
     let other : c.args.cap ≢ highest_cap (link_rows c.self.inside.root) = rw old c.if-cap-self.false in
     rw c.cut_from-found.ensures.rows (sym old ∙ sym (highest-without c.args.cap c.args.entry (link_rows c.self.inside.root) other))
+
+pub invariant_of-self : goal.invariant_of-self
+invariant_of-self g c = search rules

@@ -1,5 +1,5 @@
 use Rattle.line_reader.specs.ReadingLaws.{reads_none, reads_more}
-use Rattle.std.proofs.Common.{refl, arith}
+use Rattle.std.proofs.Common.{refl, arith, rules}
 use Rattle.line_reader.proofs.Windows.{too_long, too_long_yet}
 use Rattle.line_reader.proofs.reader.LineReader.seek.Goals as goal
 
@@ -24,3 +24,6 @@ returns-then-clear-gt-MAX_LINE_BYTES-clause-finds g c = too_long_yet c.loop-len.
 
 pub returns-in-Err-clause-reads : goal.returns-in-Err-clause-reads
 returns-in-Err-clause-reads g c = reads_more _ _ _ _ _ _ c.loop-len.invariant.reads c.in-Err.ensures.reads.0
+
+pub returns-in-Err-clause-finds : goal.returns-in-Err-clause-finds
+returns-in-Err-clause-finds g c = search rules

@@ -34,3 +34,15 @@ returns-in-Quote-clause-stopped g c =
     (e ∙ ap (λ (w : WorkerView). w.moment) c.self.view_is ∙ s.moment)
     (stopped_first g.F.Floor.at g.F.Floor.step_limit (g.F.Floor.mark c.args.floor.now) c.args.feed _ refusal _
     (c.args.floor.now, c.args.steps.now) (c.submit.new.floor, c.submit.new.steps) none))) c.submit.ensures.none
+
+pub returns-in-Piece-clause-stands : goal.returns-in-Piece-clause-stands
+returns-in-Piece-clause-stands g c = search rules
+
+pub returns-in-Piece-clause-text : goal.returns-in-Piece-clause-text
+returns-in-Piece-clause-text g c = search rules
+
+pub returns-in-Piece-clause-took : goal.returns-in-Piece-clause-took
+returns-in-Piece-clause-took g c = search rules
+
+pub returns-in-Piece-clause-stopped : goal.returns-in-Piece-clause-stopped
+returns-in-Piece-clause-stopped g c = search rules

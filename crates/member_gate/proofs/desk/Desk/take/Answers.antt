@@ -1,5 +1,5 @@
 -- A connection that has ended takes nothing more.
-use Rattle.std.proofs.Common.{◌≡◌, refl, sym, ◌∙◌, ap, subst, length}
+use Rattle.std.proofs.Common.{◌≡◌, refl, sym, ◌∙◌, ap, subst, length, rules}
 use Rattle.session_core.specs.Machine.{Machine, IsOver, sending}
 use Rattle.member_gate.specs.Answering.{Work}
 use Rattle.member_gate.specs.Desks.{DeskView}
@@ -36,3 +36,6 @@ returns-then-is_over-clause-submitted g c =
     let session : desk.session ≡ c.self.inside.session = ap (λ (v : DeskView). v.session) (sym c.self.view_is) in
     let over : IsOver desk.session = subst (λ (m : Machine). IsOver m) (sym session) (c.is_over.ensures.0 c.if-is_over.true) in
     ap (λ (w : Work). length w.submissions) (sym (over_piece c.args.config.now c.args.moment desk c.args.piece.now over))
+
+pub returns-then-is_over-clause-over : goal.returns-then-is_over-clause-over
+returns-then-is_over-clause-over g c = search rules

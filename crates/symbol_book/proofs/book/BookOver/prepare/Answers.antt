@@ -1,4 +1,4 @@
-use Rattle.std.proofs.Common.{◌≤◌, sym, subst, arith}
+use Rattle.std.proofs.Common.{◌≤◌, sym, subst, arith, rules}
 use Rattle.venue_words.specs.declared.limits.TheConstants.{MAX_ID_BYTES}
 use Rattle.symbol_book.proofs.Fits.{id_within}
 use Rattle.symbol_book.proofs.Keeping.{few_orders}
@@ -14,3 +14,6 @@ make_room-made-requires-clause-rows g c =
 pub make_room-made-requires-clause-bytes : goal.make_room-made-requires-clause-bytes
 make_room-made-requires-clause-bytes g c =
     subst (λ n. n ≤ MAX_ID_BYTES) (sym c.id_bytes-bytes.ensures) (id_within _ c.args.command.now c.requires.takes)
+
+pub returns-then-len-self-clause-full : goal.returns-then-len-self-clause-full
+returns-then-len-self-clause-full g c = search rules

@@ -1,0 +1,7 @@
+use Rattle.std.proofs.Common.{rules}
+use Rattle.session_core.specs.Machine.{on_send}
+use Rattle.session_core.proofs.session.Session.send_all.Goals as goal
+
+pub returns-clause-machine : goal.returns-clause-machine
+unfolding on_send
+returns-clause-machine c = search rules

@@ -1,0 +1,6 @@
+use Rattle.std.proofs.Common.{arith}
+use Rattle.std.proofs.lemmas.Grind.{common_steps}
+use Rattle.symbol_book.proofs.copying.reports_to.Goals as goal
+
+pub loop-report-preserved : goal.loop-report-preserved
+loop-report-preserved c = grind (arith, common_steps)
