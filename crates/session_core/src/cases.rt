@@ -1,5 +1,5 @@
 //! What each frame and each tick asks of a session that has not ended. The first case that fits decides.
-ghost use Rattle.std.specs.Prelude.{◌≡◌, ◌<◌, IfOk, None};
+ghost use Rattle.std.specs.Prelude.{◌≡◌, ◌*◌, ◌<◌, IfOk, None};
 ghost use Rattle.session_core.specs.Plan.{HandsOutUp};
 ghost use Rattle.session_core.specs.Cases.{on_message, on_too_long, has_passed, on_tick};
 
@@ -59,6 +59,13 @@ fn has_passed(milliseconds: u64, before: i64, moment: i64) -> bool
     i128::from(milliseconds) <= i128::from(moment) - i128::from(before)
 }
 
+/// Whether nothing has come for three intervals.
+fn is_silent(moment: i64, state: State) -> bool
+    ensures { result ≡ has_passed (3000 * state.heartbeat) state.received moment }
+{
+    has_passed(3000 * u64::from(state.heartbeat), state.received, moment)
+}
+
 /// What a tick asks of a session that is up. It sends at most one message.
 #[tactic(auto, unfolding(crate::specs::Cases::on_tick))]
 pub fn on_tick(alloc: Global, moment: i64, state: State) -> Result<Plan, NoMemory>
@@ -69,7 +76,7 @@ pub fn on_tick(alloc: Global, moment: i64, state: State) -> Result<Plan, NoMemor
     if seconds == 0 {
         return Ok(stays(alloc, state));
     }
-    if has_passed(3000 * seconds, state.received, moment) {
+    if is_silent(moment, state) {
         return logs_out(alloc, state, EndCause::Silent, b"SILENT");
     }
     if !state.test_out && has_passed(2000 * seconds, state.received, moment) {
