@@ -40,11 +40,11 @@ fn begin_body<F: PlainFloor>(
 {
     match Player::new(alloc, config) {
         Ok(player) => {
-            *phase = Phase::Body(player);
+            drop(replace(phase, Phase::Body(player)));
             Ok(())
         }
         Err(_) => {
-            *phase = Phase::Refused(LineFault::NoMemory);
+            drop(replace(phase, Phase::Refused(LineFault::NoMemory)));
             Err(LineFault::NoMemory)
         }
     }
@@ -82,7 +82,7 @@ pub fn turn<F: PlainFloor, L: Ledger>(
                 begin_body(alloc, phase, whole.config)
             }
             Err(fault) => {
-                *phase = Phase::Refused(fault);
+                drop(replace(phase, Phase::Refused(fault)));
                 Err(fault)
             }
         },
