@@ -13,12 +13,12 @@ ghost use Rattle.replay_core.specs.Telling.{seen};
 
 use crate::flushing::flush_behind;
 use crate::lines::{script_line, work_line};
-use crate::phase::Phase;
+use crate::phase::{Phase, begin_anew};
 use crate::plain_floor::PlainFloor;
 use crate::player::Player;
 use crate::status::{Status, status_of};
 use io_edge::Sink;
-use script_text::{Header, LineFault, load_line};
+use script_text::{LineFault, load_line};
 use std::alloc::Global;
 use std::sync::ledger::Ledger;
 use venue_words::Steps;
@@ -38,7 +38,7 @@ fn play_lines<F: PlainFloor, L: Ledger>(
     ensures err { IfErr result (λ fault. fault ≡ memory) }
     ensures steps { steps.new ≤ steps.old + (loaded orders quotes).steps }
 {
-    *phase = Phase::Head(Header::new(alloc));
+    begin_anew(alloc, phase);
     let mut text = Vec::new(alloc);
     let mut bytes = 0u64;
     for done in 0..orders + quotes + 8 {

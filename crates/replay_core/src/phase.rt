@@ -2,9 +2,10 @@
 ghost use Rattle.std.specs.Prelude.{◌≡◌, ◌≤◌, ◌+◌, [], Err, IfErr, OnOk, length};
 ghost use Rattle.venue_words.specs.Conditions.{IsConfig};
 ghost use Rattle.venue_words.specs.declared.limits.TheConstants.{MAX_LINE_BYTES};
+ghost use Rattle.script_text.specs.Header.{blank};
 ghost use Rattle.script_text.specs.declared.fault.LineFault.{LineFault};
 ghost use Rattle.replay_core.specs.Meets.{MeetsInPlace};
-ghost use Rattle.replay_core.specs.Play.{Stage, Body, turned};
+ghost use Rattle.replay_core.specs.Play.{Stage, Head, Body, turned};
 ghost use Rattle.replay_core.specs.Phases.{IsAtFault, IsAtStage, IsReady};
 ghost use Rattle.replay_core.specs.Playing.{before_body};
 
@@ -22,6 +23,14 @@ pub enum Phase<F: PlainFloor> {
     Head(Header),
     Body(Player<F>),
     Refused(LineFault),
+}
+
+/// A script begins: its header is read from the first line on.
+pub fn begin_anew<F: PlainFloor>(alloc: Global, phase: &mut Phase<F>)
+    ensures stage { IsAtStage F.at phase.new (Head blank) }
+    ensures ready { IsReady phase.new }
+{
+    drop(replace(phase, Phase::Head(Header::new(alloc))));
 }
 
 /// The body begins behind a header that says this config. It stands apart, so that a line of the body does not clear what is

@@ -8,12 +8,12 @@ ghost use Rattle.replay_core.specs.Reading.{IsAtPlace, fault_in};
 ghost use Rattle.replay_core.specs.Telling.{Ran, ending, seen};
 
 use crate::lines::{ScriptLine, play_line};
-use crate::phase::Phase;
+use crate::phase::{Phase, begin_anew};
 use crate::plain_floor::PlainFloor;
 use crate::status::Status;
 use io_edge::{Shelf, Sink};
 use line_reader::{LineReader, NextLine};
-use script_text::{Header, LimitCause, LineCause};
+use script_text::{LimitCause, LineCause};
 use std::alloc::Global;
 use std::sync::ledger::Ledger;
 use venue_words::Steps;
@@ -56,7 +56,7 @@ pub fn play_file<F: PlainFloor, H: Shelf, K: Sink, L: Ledger>(
     ensures sure { IsTrue (H.sure shelf.old) → result ≢ Status.ReadFault }
     ensures words { result ≢ Status.BadWords }
 {
-    *phase = Phase::Head(Header::new(alloc));
+    begin_anew(alloc, phase);
     let mut text = Vec::new(alloc);
     loop {
         let number = reader.lines() + 1;

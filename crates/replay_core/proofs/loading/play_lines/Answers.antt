@@ -8,9 +8,9 @@ use Rattle.replay_core.proofs.loading.play_lines.Goals as goal
 
 pub loop-done-init : goal.loop-done-init
 loop-done-init g c = record {
-  goes = loads_first g.F.Floor.at c.args.orders c.args.quotes c.args.steps.now _ c.new.ensures.header;
+  goes = loads_first g.F.Floor.at c.args.orders c.args.quotes c.args.steps.now _ c.begin_anew.ensures.stage;
   within = omega arith;
-  ready = c.new.ensures.config;
+  ready = c.begin_anew.ensures.ready;
 }
 
 pub loop-done-preserved : goal.loop-done-preserved
