@@ -4,7 +4,7 @@ ghost use Rattle.std.specs.Io.KnownBytes.{Appends};
 ghost use Rattle.venue_words.specs.Causes.{Rose};
 ghost use Rattle.venue_words.specs.Conditions.{IsConfig};
 ghost use Rattle.io_edge.specs.Faults.{IsCaused, faults};
-ghost use Rattle.market_data.specs.Feeding.{StandsFor, Adds};
+ghost use Rattle.market_data.specs.Feeding.{unfed, StandsFor, Adds};
 ghost use Rattle.market_data.specs.Outcomes.{IsRunning, Ran, StopsIn, IsStop};
 
 use crate::feeding::MarketSession;
@@ -48,25 +48,23 @@ fn feed_piece<K: Sink>(
 
 /// Reads the file that was begun into a buffer, piece by piece, and puts the lines of each piece before the next is read.
 fn feed_pieces<H: Shelf, K: Sink>(
-    alloc: Global,
     config: &Config,
-    source: Bytes,
+    session: &mut MarketSession,
     buffer: &mut [u8],
+    text: &mut Vec<u8>,
     shelf: &mut H,
     out: &mut K,
 ) -> MarketStatus
     requires begun { IsTrue (H.begun shelf.old) }
     requires config { IsConfig config.now }
     requires room { 0 < length buffer.old }
-    ensures ran { IfSome (H.left shelf.old) (λ bytes.
+    ensures ran { (source : List ℕ) → session.old ≡ unfed source → IfSome (H.left shelf.old) (λ bytes.
         Ran config.now source bytes (K.told out.old) (K.told out.new) (H.left shelf.new) result) }
     ensures running { IsRunning result }
     ensures caused { IsCaused MarketStatus.ReadFault MarketStatus.WriteFault (faults (H.faults shelf.old) (K.faults out.old))
         (faults (H.faults shelf.new) (K.faults out.new)) result }
     ensures sure { IsTrue (H.sure shelf.old) → result ≢ MarketStatus.ReadFault }
 {
-    let mut session = MarketSession::new(alloc, source);
-    let mut text = Vec::new(alloc);
     let mut taken = 0u64;
     'pieces: loop {
         let count = match shelf.pull(buffer) {
@@ -77,7 +75,7 @@ fn feed_pieces<H: Shelf, K: Sink>(
             return MarketStatus::Done;
         }
         let within = count.min((MAX_INPUT_BYTES - taken) as usize);
-        let ended = match feed_piece(&mut session, config, &buffer[..within], &mut text, out) {
+        let ended = match feed_piece(session, config, &buffer[..within], text, out) {
             Ok(ended) => ended,
             Err(status) => return status,
         };
@@ -111,7 +109,11 @@ pub fn feed_input<H: Shelf, K: Sink>(
     ensures sure { IsTrue (H.sure shelf.old) → result ≢ MarketStatus.ReadFault }
 {
     match buffer_of(alloc, READ_BYTES) {
-        Ok(mut buffer) => feed_pieces(alloc, config, source, &mut buffer, shelf, out),
+        Ok(mut buffer) => {
+            let mut session = MarketSession::new(alloc, source);
+            let mut text = Vec::new(alloc);
+            feed_pieces(config, &mut session, &mut buffer, &mut text, shelf, out)
+        }
         Err(_) => MarketStatus::NoMemory,
     }
 }
