@@ -92,3 +92,8 @@ pieces-preserved g c =
       write_later = omega (arith, c.in-Ok-feed_piece.ensures.later, i.write_later);
       sure = λ sure. (c.in-Ok.ensures.sure (i.sure sure)).stays;
     }
+
+pub pieces-smaller : goal.pieces-smaller
+pieces-smaller g c =
+    let within : c.min-within.result ≡ min c.in-Ok.count (536870912 - c.pieces.taken) = omega (arith, c.min-within.ensures) in
+    omega (arith, within, c.pieces.invariant.within, c.if-count-eq0.false, c.if-within-count.false)
