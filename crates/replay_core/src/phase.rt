@@ -26,7 +26,7 @@ pub enum Phase<F: PlainFloor> {
 }
 
 /// A script begins: its header is read from the first line on.
-pub fn begin_anew<F: PlainFloor>(alloc: Global, phase: &mut Phase<F>)
+pub(crate) fn begin_anew<F: PlainFloor>(alloc: Global, phase: &mut Phase<F>)
     ensures stage { IsAtStage F.at phase.new (Head blank) }
     ensures ready { IsReady phase.new }
 {
