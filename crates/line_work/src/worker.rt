@@ -148,6 +148,51 @@ impl LineWorker {
         open_desk(self.desks.as_mut_slice(), member);
     }
 
+    /// Does what a line says, as `work` does, which lets go of the line then.
+    fn work_line<F: Floor, L: Ledger>(
+        &mut self,
+        floor: &mut F,
+        feed: u32,
+        line: &Line,
+        out: &mut Vec<u8>,
+        steps: &mut Steps<L>,
+    ) -> Result<(), DeskRefusal>
+        requires line { IsLineOf self.old.config line.now }
+        requires setup { IsSetUpFor self.old.config (F.mark floor.old).setup }
+        ensures stands { OnOk result ((state : FeedState) → StandsFor self.old state
+            → StandsFor self.new (work_of_line state line.now).state) }
+        ensures text { OnOk result ((state : FeedState) → StandsFor self.old state
+            → out.new.items ≡ out.old.items ++ (work_of_line state line.now).text) }
+        ensures took { OnOk result ((state : FeedState) → StandsFor self.old state
+            → TookAll F.at F.step_limit (F.mark floor.old) feed (work_of_line state line.now).state.moment
+            (work_of_line state line.now).submissions (floor.old, steps.old) (floor.new, steps.new)) }
+        ensures stopped { IfErr result (λ refusal. (state : FeedState) → StandsFor self.old state
+            → TookPart F.at F.step_limit (F.mark floor.old) feed (work_of_line state line.now).state.moment refusal
+            (work_of_line state line.now).submissions (floor.old, steps.old) (floor.new, steps.new)) }
+
+        // What stays.
+        ensures mark { F.mark floor.new ≡ F.mark floor.old }
+        ensures config { self.new.config ≡ self.old.config }
+        ensures cursors { map (λ desk. desk.cursors) self.new.desks ≡ map (λ desk. desk.cursors) self.old.desks }
+    {
+        match line {
+            Line::Moment(moment) => match self.tick(*moment, out) {
+                Ok(()) => Ok(()),
+                Err(_) => Err(DeskRefusal::NoMemory),
+            },
+            Line::Quote { symbol, command } => {
+                submit(floor, feed, self.moment, *symbol, command, steps)
+            }
+            Line::Piece { member, bytes } => {
+                self.take(floor, feed, *member, bytes.as_slice(), out, steps)
+            }
+            Line::Open { member } => {
+                self.open(*member);
+                Ok(())
+            }
+        }
+    }
+
     /// Does what a line of this config says, which comes by the feed of this number, from 1 on: its commands go to the floor,
     /// and the replies of the members' sessions are appended, one frame in a line. After a refusal the floor took the first of
     /// its commands, and the worker stands at no line any more.
@@ -177,22 +222,7 @@ impl LineWorker {
         ensures config { self.new.config ≡ self.old.config }
         ensures cursors { map (λ desk. desk.cursors) self.new.desks ≡ map (λ desk. desk.cursors) self.old.desks }
     {
-        match line {
-            Line::Moment(moment) => match self.tick(moment, out) {
-                Ok(()) => Ok(()),
-                Err(_) => Err(DeskRefusal::NoMemory),
-            },
-            Line::Quote { symbol, command } => {
-                submit(floor, feed, self.moment, symbol, &command, steps)
-            }
-            Line::Piece { member, bytes } => {
-                self.take(floor, feed, member, bytes.as_slice(), out, steps)
-            }
-            Line::Open { member } => {
-                self.open(member);
-                Ok(())
-            }
-        }
+        self.work_line(floor, feed, &line, out, steps)
     }
 
     /// Reads a line, without its LF, and works it as `work` does. A fault is that of line 1: why the line can't be read, or

@@ -6,12 +6,12 @@ use Rattle.line_work.specs.Refusing.{TookPart}
 use Rattle.line_work.specs.Standing.{WorkerView}
 use Rattle.line_work.proofs.Kept.{weaker, weaker_err}
 use Rattle.line_work.proofs.Stops.{stopped_before, stopped_first}
-use Rattle.line_work.proofs.worker.LineWorker.work.Goals as goal
+use Rattle.line_work.proofs.worker.LineWorker.work_line.Goals as goal
 
 pub returns-in-Err-clause-stopped : goal.returns-in-Err-clause-stopped
 returns-in-Err-clause-stopped g c state s =
-    stopped_before g.F.Floor.at g.F.Floor.step_limit (g.F.Floor.mark c.args.floor.now) c.args.feed (work_of_line state c.args.line).state.moment
-    (work_of_line state c.args.line).submissions (c.args.floor.now, c.args.steps.now)
+    stopped_before g.F.Floor.at g.F.Floor.step_limit (g.F.Floor.mark c.args.floor.now) c.args.feed (work_of_line state c.args.line.now).state.moment
+    (work_of_line state c.args.line.now).submissions (c.args.floor.now, c.args.steps.now)
 
 pub returns-in-Quote-clause-took : goal.returns-in-Quote-clause-took
 returns-in-Quote-clause-took g c =
