@@ -3,7 +3,8 @@ ghost use Rattle.std.specs.Prelude.{◌≡◌, ◌+◌, ◌≤◌, ◌<◌, ◌+
 ghost use Rattle.venue_words.specs.Conditions.{IsConfig};
 ghost use Rattle.venue_words.specs.Floors.{IsSetUpFor};
 ghost use Rattle.fix_frames.specs.Reading.{reading_of};
-ghost use Rattle.session_core.specs.Machine.{IsOver, given_up};
+ghost use Rattle.session_core.specs.Machine.{IsUp, IsOver, given_up};
+ghost use Rattle.member_gate.specs.Answering.{answer};
 ghost use Rattle.member_gate.specs.Submitting.{TookAll, TookNone, Stopped};
 ghost use Rattle.member_gate.specs.Working.{work_of_frame, work_at_limit, work_of_reading, AreUnread, GaveUp};
 
@@ -13,10 +14,58 @@ use crate::refusal::DeskRefusal;
 use crate::worked::Worked;
 use fix_fields::Frame;
 use fix_frames::{Framer, Next};
-use session_core::Session;
+use session_core::{Request, Session};
 use std::sync::ledger::Ledger;
 use venue_words::limits::MAX_FRAME_BYTES;
 use venue_words::{Bytes, Floor, Steps};
+
+/// Works a message that the session handed out: its answer is added, or its command counted. After a refusal neither is, and
+/// the session is as it was.
+fn work_request<F: Floor, L: Ledger>(
+    session: &mut Session,
+    floor: &mut F,
+    origin: Origin<'_>,
+    request: &Request<'_>,
+    worked: &mut Worked,
+    steps: &mut Steps<L>,
+) -> Result<(), DeskRefusal>
+    requires up { IsUp session.old }
+    requires config { IsConfig origin.config.now }
+    requires setup { IsSetUpFor origin.config.now (F.mark floor.old).setup }
+    requires member { origin.member < length origin.config.now.members }
+    ensures session { OnOk result (session.new
+        ≡ (answer origin.entry.config.now origin.entry.member origin.entry.moment session.old request.now).session) }
+    ensures replies { OnOk result (worked.new.replies.items ≡ worked.old.replies.items
+        ++ (answer origin.entry.config.now origin.entry.member origin.entry.moment session.old request.now).replies) }
+    ensures mark { F.mark floor.new ≡ F.mark floor.old }
+    ensures took { OnOk result (TookAll F.at F.step_limit (F.mark floor.old) origin.entry.feed origin.entry.moment
+        (answer origin.entry.config.now origin.entry.member origin.entry.moment session.old request.now).submissions
+        (floor.old, steps.old) (floor.new, steps.new)) }
+    ensures count { OnOk result (worked.new.submitted ≡ worked.old.submitted + length (answer origin.entry.config.now
+        origin.entry.member origin.entry.moment session.old request.now).submissions) }
+    ensures err { OnErr result (session.new ≡ session.old) }
+    ensures uncounted { OnErr result (worked.new.submitted ≡ worked.old.submitted) }
+    ensures none { IfErr result (λ refusal. TookNone F.at F.step_limit (F.mark floor.old)
+        origin.entry.feed origin.entry.moment refusal
+        (answer origin.entry.config.now origin.entry.member origin.entry.moment session.old request.now).submissions
+        (floor.old, steps.old) (floor.new, steps.new)) }
+{
+    // Room is taken first, so that no answer is lost that has its number, and no command goes uncounted.
+    worked.replies.reserve(1)?;
+    let Some(count) = worked.submitted.checked_add(1) else {
+        return Err(DeskRefusal::NoMemory);
+    };
+    match answer(session, floor, origin, request, steps)? {
+        Some(reply) => {
+            worked.replies.push_reserved(reply);
+            Ok(())
+        }
+        None => {
+            worked.submitted = count;
+            Ok(())
+        }
+    }
+}
 
 /// Works a frame: its replies are added. After a refusal some of them may be.
 #[tactic(auto, unfolding(crate::specs::Working::work_of_frame))]
@@ -54,21 +103,7 @@ fn work_frame<F: Floor, L: Ledger>(
     let Some(request) = turn.request else {
         return Ok(());
     };
-    // Room is taken first, so that no answer is lost that has its number, and no command goes uncounted.
-    worked.replies.reserve(1)?;
-    let Some(count) = worked.submitted.checked_add(1) else {
-        return Err(DeskRefusal::NoMemory);
-    };
-    match answer(session, floor, origin, &request, steps)? {
-        Some(reply) => {
-            worked.replies.push_reserved(reply);
-            Ok(())
-        }
-        None => {
-            worked.submitted = count;
-            Ok(())
-        }
-    }
+    work_request(session, floor, origin, &request, worked, steps)
 }
 
 /// The connection ends, since the next frame is too long. What is sent then is added.
