@@ -28,7 +28,6 @@ use venue_words::{Bytes, Config, Floor, NoMemory, Steps};
 
 /// The desk of a member: his session, the stream of bytes of his connection, and for each symbol how many of its
 /// reports he has been sent or passed over. Session and cursors outlive a connection.
-#[derive(Drop)]
 pub struct Desk {
     alloc: Global,
     member: u32,
@@ -42,6 +41,22 @@ pub struct Desk {
     messages: MessageList,
     /// How many commands the last piece submitted.
     submitted: u32,
+}
+
+// Written out, so that crates above let go of a desk by this theorem, and not part by part.
+impl Drop for Desk {
+    fn drop(self) {
+        let Desk {
+            alloc: _,
+            member: _,
+            session: _,
+            framer: _,
+            cursors: _,
+            fronts: _,
+            messages: _,
+            submitted: _,
+        } = self;
+    }
 }
 
 impl Model for Desk {

@@ -22,13 +22,24 @@ use venue_words::{Bytes, Items, NoMemory};
 
 /// The session of one member, over one connection after the other: numbers and what was sent outlive a connection.
 /// Every message that is sent takes the next number, from 1 on. Contracts see it as a machine.
-#[derive(Drop)]
 pub struct Session {
     alloc: Global,
     member: Bytes,
     state: State,
     /// What is kept of each message that was sent, by number from 1 on.
     sent: SentMessages,
+}
+
+// Written out, so that crates above let go of a session by this theorem, and not part by part.
+impl Drop for Session {
+    fn drop(self) {
+        let Session {
+            alloc: _,
+            member: _,
+            state: _,
+            sent: _,
+        } = self;
+    }
 }
 
 impl Model for Session {

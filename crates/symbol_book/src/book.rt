@@ -24,7 +24,6 @@ use venue_words::{Command, Event, FloorRefusal, Key, NoMemory, Priced, Report, S
 
 /// The book of one symbol over a matching engine. It is seen as its journal and what that makes: the state and the reports
 /// are always those of the market's rules for the journal.
-#[derive(Drop)]
 pub struct BookOver<E: Engine + Drop> {
     alloc: Global,
     tick: u32,
@@ -33,6 +32,20 @@ pub struct BookOver<E: Engine + Drop> {
     journal: Vec<Event>,
     /// The key of the row for which there is room, where there is room for an event.
     ready: Option<Option<Key>>,
+}
+
+// Written out, so that crates above let go of a book by this theorem, and not part by part.
+impl<E: Engine + Drop> Drop for BookOver<E> {
+    fn drop(self) {
+        let BookOver {
+            alloc: _,
+            tick: _,
+            limit: _,
+            parts: _,
+            journal: _,
+            ready: _,
+        } = self;
+    }
 }
 
 impl<E: Engine + Drop> Model for BookOver<E> {
