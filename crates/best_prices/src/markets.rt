@@ -14,10 +14,16 @@ const EMPTY: Best = Best {
 };
 
 /// The quotes of all markets in one symbol, in the order of the markets' numbers. Contracts see it as the list of them.
-#[derive(Drop)]
 pub struct Markets {
     rows: Vec<Best>,
     best: Best,
+}
+
+// Written out, so that crates above let go of one by this theorem, and not part by part.
+impl Drop for Markets {
+    fn drop(self) {
+        let Markets { rows: _, best: _ } = self;
+    }
 }
 
 impl Model for Markets {

@@ -21,7 +21,6 @@ use venue_words::{Bytes, Config, Floor, NoMemory};
 
 /// The desk of a drop session: the session, the stream of bytes of its connection, and for each symbol and listed member how many
 /// reports were copied or passed over. Session and cursors outlive a connection.
-#[derive(Drop)]
 pub struct DropDesk {
     alloc: Global,
     session: Session,
@@ -33,6 +32,21 @@ pub struct DropDesk {
     moved: Vec<u32>,
     /// Room for the messages that are sent next.
     messages: MessageList,
+}
+
+// Written out, so that crates above let go of one by this theorem, and not part by part.
+impl Drop for DropDesk {
+    fn drop(self) {
+        let DropDesk {
+            alloc: _,
+            session: _,
+            framer: _,
+            members: _,
+            cursors: _,
+            moved: _,
+            messages: _,
+        } = self;
+    }
 }
 
 impl Model for DropDesk {

@@ -49,13 +49,24 @@ fn drop_front(bytes: &mut Vec<u8>, count: usize)
 
 /// Cuts a stream into frames, however its bytes come. Contracts see it as how many bytes of the stream were passed
 /// over or given, the bytes behind them, which are kept, and how many bytes are held in memory.
-#[derive(Debug, Drop)]
+#[derive(Debug)]
 pub struct Framer {
     bytes: Vec<u8>,
     /// The first byte that is kept.
     start: usize,
     /// How many bytes of the stream stand before it.
     passed: u64,
+}
+
+// Written out, so that crates above let go of one by this theorem, and not part by part.
+impl Drop for Framer {
+    fn drop(self) {
+        let Framer {
+            bytes: _,
+            start: _,
+            passed: _,
+        } = self;
+    }
 }
 
 impl Model for Framer {

@@ -32,7 +32,7 @@ fn tell_quote(input: &[u8], told: &mut Told) -> Result<(), NoMemory> {
     if config.symbols.len() > 256 || config.markets.len() > 32 {
         return Err(NoMemory);
     }
-    match read_quote(input, &config) {
+    match &read_quote(input, &config) {
         Ok((symbol, Command::Quote { market, bid, offer })) => {
             told.code(&(symbol, market, bid, offer))
         }

@@ -36,7 +36,6 @@ enum Sought {
 
 /// Hands out the lines of the file that was begun on a shelf, one by one. It holds no more of the file than one line and
 /// what one read gave, and takes no memory after `new`.
-#[derive(Drop)]
 pub struct LineReader {
     buffer: Vec<u8>,
     start: usize,
@@ -44,6 +43,20 @@ pub struct LineReader {
     lines: u32,
     bytes: u64,
     most: u64,
+}
+
+// Written out, so that crates above let go of one by this theorem, and not part by part.
+impl Drop for LineReader {
+    fn drop(self) {
+        let LineReader {
+            buffer: _,
+            start: _,
+            end: _,
+            lines: _,
+            bytes: _,
+            most: _,
+        } = self;
+    }
 }
 
 impl Model for LineReader {

@@ -29,7 +29,6 @@ use std::sync::ledger::Ledger;
 use venue_words::{Config, Floor, NoMemory, Steps};
 
 /// Works the lines of a feed: it keeps the moment and the desks of all members, and works over any floor.
-#[derive(Drop)]
 pub struct LineWorker {
     alloc: Global,
     config: Config,
@@ -37,6 +36,18 @@ pub struct LineWorker {
     desks: Vec<Desk>,
     /// In milliseconds since 1970-01-01 00:00 UTC.
     moment: i64,
+}
+
+// Written out, so that crates above let go of one by this theorem, and not part by part.
+impl Drop for LineWorker {
+    fn drop(self) {
+        let LineWorker {
+            alloc: _,
+            config: _,
+            desks: _,
+            moment: _,
+        } = self;
+    }
 }
 
 impl Model for LineWorker {

@@ -16,7 +16,6 @@ use std::sync::ledger::{Blank, Ledger};
 use venue_words::{Best, Key, NoMemory, Row, Side, Steps};
 
 /// The buys and the sells of one symbol, with the quote that prices them and the trades of the last call that matched.
-#[derive(Drop)]
 pub struct Sides<S: SideBook + Drop> {
     buys: S,
     sells: S,
@@ -26,6 +25,21 @@ pub struct Sides<S: SideBook + Drop> {
     alloc: Global,
     best: Best,
     latest: u32,
+}
+
+// Written out, so that crates above let go of one by this theorem, and not part by part.
+impl<S: SideBook + Drop> Drop for Sides<S> {
+    fn drop(self) {
+        let Sides {
+            buys: _,
+            sells: _,
+            scratch: _,
+            spare: _,
+            alloc: _,
+            best: _,
+            latest: _,
+        } = self;
+    }
 }
 
 impl<S: SideBook + Drop> Model for Sides<S> {

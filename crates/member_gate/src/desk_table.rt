@@ -6,11 +6,20 @@ use std::marker::Model;
 use venue_words::NoMemory;
 
 /// The desks of all members, by member, for one thread; none stands where it was taken out.
-#[derive(Drop)]
 pub struct DeskTable {
     desks: Vec<Option<Desk>>,
     /// How often a desk was asked for that was not there.
     refused: u64,
+}
+
+// Written out, so that crates above let go of one by this theorem, and not part by part.
+impl Drop for DeskTable {
+    fn drop(self) {
+        let DeskTable {
+            desks: _,
+            refused: _,
+        } = self;
+    }
 }
 
 impl Model for DeskTable {

@@ -24,7 +24,6 @@ use venue_words::{Best, Key, NoMemory, Row, Steps};
 /// value. Its width and its visits are the number of groups, with those that `reserve` made and that have no row yet.
 /// `tidy` visits no group where no row left and no group was made since it last did, nor does `reserve` for a move where
 /// nothing was priced since.
-#[derive(Drop)]
 pub struct GroupSide {
     groups: IndexMap<Key, Group>,
     alloc: Global,
@@ -35,6 +34,21 @@ pub struct GroupSide {
     some_empty: bool,
     /// Whether each group has room for a move.
     all_roomy: bool,
+}
+
+// Written out, so that crates above let go of one by this theorem, and not part by part.
+impl Drop for GroupSide {
+    fn drop(self) {
+        let GroupSide {
+            groups: _,
+            alloc: _,
+            best: _,
+            event: _,
+            len: _,
+            some_empty: _,
+            all_roomy: _,
+        } = self;
+    }
 }
 
 impl Model for GroupSide {

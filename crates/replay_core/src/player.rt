@@ -22,7 +22,6 @@ use std::sync::ledger::Ledger;
 use venue_words::{Config, NoMemory, Steps};
 
 /// Works the lines behind a header, over any floor of one thread.
-#[derive(Drop)]
 pub struct Player<F: PlainFloor> {
     alloc: Global,
     worker: LineWorker,
@@ -30,6 +29,19 @@ pub struct Player<F: PlainFloor> {
     news: News,
     /// The fault of the first refused line, at which the player stands from then on.
     fault: Option<LineFault>,
+}
+
+// Written out, so that crates above let go of one by this theorem, and not part by part.
+impl<F: PlainFloor> Drop for Player<F> {
+    fn drop(self) {
+        let Player {
+            alloc: _,
+            worker: _,
+            floor: _,
+            news: _,
+            fault: _,
+        } = self;
+    }
 }
 
 impl<F: PlainFloor> Model for Player<F> {

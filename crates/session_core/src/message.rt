@@ -28,12 +28,19 @@ pub struct Request<'a> {
 }
 
 /// A message that is to be sent, without its head.
-#[derive(Debug, Drop)]
+#[derive(Debug)]
 pub struct Message {
     /// MsgType(35).
     pub kind: MessageType,
     /// Its fields behind the head.
     pub body: Bytes,
+}
+
+// Written out, so that crates above let go of one by this theorem, and not part by part.
+impl Drop for Message {
+    fn drop(self) {
+        let Message { kind: _, body: _ } = self;
+    }
 }
 
 /// An application message that was sent, as contracts see what is kept of it.

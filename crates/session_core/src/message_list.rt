@@ -104,10 +104,20 @@ fn push_moved(parts: &mut Vec<Part>, more: &[Part], front: usize)
 }
 
 /// Messages whose bodies stand in one list. Contracts see it as the list of the messages.
-#[derive(Debug, Drop)]
+#[derive(Debug)]
 pub struct MessageList {
     bodies: Vec<u8>,
     parts: Vec<Part>,
+}
+
+// Written out, so that crates above let go of one by this theorem, and not part by part.
+impl Drop for MessageList {
+    fn drop(self) {
+        let MessageList {
+            bodies: _,
+            parts: _,
+        } = self;
+    }
 }
 
 impl Model for MessageList {

@@ -24,9 +24,15 @@ use venue_words::{Command, FloorRefusal, Held, Look, NoMemory, Steps};
 /// A value, such as a symbol's book, on which one seat at a time works. Threads share a gate by
 /// reference, and each calls it with a seat of its own. Every command that the value takes stands in one
 /// history, which is the value's journal.
-#[derive(Drop)]
 pub struct Gate<V: Held> {
     table: Table<Option<V>, SeatView, V, OneHistory, Global>,
+}
+
+// Written out, so that crates above let go of one by this theorem, and not part by part.
+impl<V: Held + Drop> Drop for Gate<V> {
+    fn drop(self) {
+        let Gate { table: _ } = self;
+    }
 }
 
 impl<V: Held> Model for Gate<V> {

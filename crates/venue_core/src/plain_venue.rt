@@ -15,12 +15,23 @@ use venue_words::{Command, Config, Floor, FloorRefusal, Held, Look, NoMemory, St
 ///
 /// At each symbol it shows the book's journal, of which every event is its own. It tells no turns. A refusal
 /// leaves all that it shows.
-#[derive(Drop)]
 pub struct PlainVenue<V: Held> {
     members: usize,
     markets: usize,
     ticks: Vec<u32>,
     books: Vec<V>,
+}
+
+// Written out, so that crates above let go of one by this theorem, and not part by part.
+impl<V: Held + Drop> Drop for PlainVenue<V> {
+    fn drop(self) {
+        let PlainVenue {
+            members: _,
+            markets: _,
+            ticks: _,
+            books: _,
+        } = self;
+    }
 }
 
 impl<V: Held> Model for PlainVenue<V> {

@@ -17,12 +17,23 @@ use venue_words::{Config, Held, NoMemory};
 
 /// A venue over gates, one for each symbol's book. Threads share it by reference, and each works on it
 /// through seats of its own: see `Seated`.
-#[derive(Drop)]
 pub struct Venue<V: Held> {
     members: usize,
     markets: usize,
     ticks: Vec<u32>,
     pub(crate) gates: Vec<Gate<V>>,
+}
+
+// Written out, so that crates above let go of one by this theorem, and not part by part.
+impl<V: Held + Drop> Drop for Venue<V> {
+    fn drop(self) {
+        let Venue {
+            members: _,
+            markets: _,
+            ticks: _,
+            gates: _,
+        } = self;
+    }
 }
 
 impl<V: Held> Model for Venue<V> {
@@ -110,7 +121,12 @@ impl<V: Held + Drop> Venue<V> {
         let Ok(books) = Vec::with_capacity(alloc, self.gates.len()) else {
             return Err((self, seats, NoMemory));
         };
-        let Venue { gates, .. } = self;
+        let Venue {
+            members: _,
+            markets: _,
+            ticks: _,
+            gates,
+        } = self;
         Ok(calls::close(gates, seats.list, books))
     }
 }

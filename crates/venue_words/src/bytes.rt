@@ -5,8 +5,15 @@ use std::alloc::{AllocError, Global};
 use std::marker::Model;
 
 /// A text or a name. Contracts see it as the list of its bytes.
-#[derive(Debug, Drop)]
+#[derive(Debug)]
 pub struct Bytes(pub Vec<u8>);
+
+// Written out, so that crates above let go of one by this theorem, and not part by part.
+impl Drop for Bytes {
+    fn drop(self) {
+        let Bytes(_) = self;
+    }
+}
 
 impl Model for Bytes {
     ghost use Rattle.std.specs.Prelude.{List, ℕ};

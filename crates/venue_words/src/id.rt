@@ -13,8 +13,14 @@ pub const SHORT_ID_BYTES: usize = 22;
 
 /// A ClOrdID(11), as its member wrote it. Contracts see it as the list of its bytes. One of at most 22 bytes lies in the value
 /// itself, so that a copy of it takes no memory.
-#[derive(Drop)]
 pub struct Id(Kept);
+
+// Written out, so that crates above let go of one by this theorem, and not part by part.
+impl Drop for Id {
+    fn drop(self) {
+        let Id(_) = self;
+    }
+}
 
 /// Where the bytes of an id are.
 #[derive(Drop)]
@@ -94,8 +100,15 @@ impl Id {
 }
 
 /// An id on the heap, so that a command is small. Contracts see the id.
-#[derive(Debug, Drop)]
+#[derive(Debug)]
 pub struct BoxedId(Box<Id>);
+
+// Written out, so that crates above let go of one by this theorem, and not part by part.
+impl Drop for BoxedId {
+    fn drop(self) {
+        let BoxedId(_) = self;
+    }
+}
 
 impl Model for BoxedId {
     ghost use Rattle.std.specs.Prelude.{List, ℕ};

@@ -145,7 +145,7 @@ pub enum Kind {
 }
 
 /// A report of an event to a member.
-#[derive(Debug, Drop)]
+#[derive(Debug)]
 pub struct Report {
     pub event: u32,
     /// Its place among the event's reports, counted from 1.
@@ -154,6 +154,19 @@ pub struct Report {
     /// The event's moment, in milliseconds since 1970-01-01 00:00 UTC.
     pub moment: i64,
     pub kind: Kind,
+}
+
+// Written out, so that crates above let go of one by this theorem, and not part by part.
+impl Drop for Report {
+    fn drop(self) {
+        let Report {
+            event: _,
+            place: _,
+            member: _,
+            moment: _,
+            kind: _,
+        } = self;
+    }
 }
 
 /// A member's reports from a position on.

@@ -130,8 +130,15 @@ fn pack(terms: &Terms) -> Option<Packed>
 }
 
 /// Terms on the heap, so that a command and its event are small. Contracts see the terms.
-#[derive(Debug, Drop)]
+#[derive(Debug)]
 pub struct BoxedTerms(Box<Packed>);
+
+// Written out, so that crates above let go of one by this theorem, and not part by part.
+impl Drop for BoxedTerms {
+    fn drop(self) {
+        let BoxedTerms(_) = self;
+    }
+}
 
 impl Model for BoxedTerms {
     ghost use Rattle.venue_words.specs.declared.terms.Terms.{Terms};
