@@ -1,4 +1,4 @@
-//! Trials of connections: sessions over links in memory, and the server over loopback. All of it is tests.
+//! Trials of connections: sessions and drop copies over links in memory, and the server over loopback. All of it is tests.
 #![tactic(auto)]
 
 #[cfg(test)]

@@ -3,6 +3,7 @@ ghost use Rattle.std.specs.Prelude.{◌<◌, ◌≤◌, length, IfOk};
 ghost use Rattle.venue_words.specs.Conditions.{IsConfig};
 ghost use Rattle.drop_copy.specs.Desks.{AreConfigured};
 
+mod copies;
 mod links;
 
 use drop_copy::{DropDesk, DropPlan};
@@ -49,8 +50,9 @@ const B_ORDER: &[u8] =
 const C_LOGON: &[u8] =
     b"35=A\x0149=C\x0156=PEGV\x0134=1\x0152=20240102-14:30:00\x0198=0\x01108=30\x011137=9\x01";
 
-/// The numbers of the messages that C gets behind the answer to its Logon, each with the member whose report it copies.
-const COPIES: &[u8] = b"34=2 9703=A\n34=3 9703=B\n34=4 9703=A\n34=5 9703=B\n34=6 9703=B\n";
+/// The numbers of the copies that C gets behind the answer to its Logon, then what those of A's reports tell, and those of B's. Which member's
+/// copies go out first is not promised: that hangs on when the file's quote comes.
+const COPIES: &[u8] = b"34=2\n34=3\n34=4\n34=5\n34=6\n150=0\n150=F\n150=8\n150=0\n150=F\n";
 
 /// How often a peer reads before he gives up.
 const MOST_READS: u32 = 200;
@@ -180,26 +182,32 @@ fn trade<R: Net<Stream = TcpStream>>(
     }
 }
 
-/// Appends the number of a copy and its member, as a line.
-fn push_copy(copies: &mut Vec<u8>, number: &[u8], member: &[u8]) -> Result<(), AllocError> {
-    copies.extend_from_slice(number)?;
-    copies.push(b' ')?;
-    copies.extend_from_slice(member)?;
-    Ok(copies.push(b'\n')?)
-}
-
-/// The number of each copy, and its member.
-fn copies_in(alloc: Global, heard: &[u8]) -> Result<Vec<u8>, NoMemory> {
-    let mut copies = Vec::new(alloc);
-    let mut number = heard;
+/// Appends the last field that begins so in front of each one that says a member so, as lines.
+fn push_fields(
+    fields: &mut Vec<u8>,
+    heard: &[u8],
+    begin: &[u8],
+    member: &[u8],
+) -> Result<(), AllocError> {
+    let mut last = begin;
     for field in heard.split(|byte| *byte == 1) {
-        if field.starts_with(b"34=") {
-            number = field;
+        if field.starts_with(begin) {
+            last = field;
         }
-        if field.starts_with(b"9703=") {
-            push_copy(&mut copies, number, field)?;
+        if field.starts_with(member) {
+            fields.extend_from_slice(last)?;
+            fields.push(b'\n')?;
         }
     }
+    Ok(())
+}
+
+/// The number of each copy, and what each of A's and of B's tells.
+fn copies_in(alloc: Global, heard: &[u8]) -> Result<Vec<u8>, AllocError> {
+    let mut copies = Vec::new(alloc);
+    push_fields(&mut copies, heard, b"34=", b"9703=")?;
+    push_fields(&mut copies, heard, b"150=", b"9703=A")?;
+    push_fields(&mut copies, heard, b"150=", b"9703=B")?;
     Ok(copies)
 }
 

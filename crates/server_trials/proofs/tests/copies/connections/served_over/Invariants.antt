@@ -1,5 +1,5 @@
 -- The ledger of the steps, which nothing reads.
-use Rattle.drop_trials.proofs.tests.connections.served_over.Given as goal
+use Rattle.server_trials.proofs.tests.copies.connections.served_over.Given as goal
 
 abbrev pub ghosts-trade : goal.ghosts-trade
 ghosts-trade g a = record { name = a.blank.name; parts = a.blank.parts }

@@ -1,4 +1,5 @@
-//! What all trials share: a config, a trade of its two members, and frames.
+//! Drop copies: worked examples over a venue for one thread, and connections over links in memory. Here is what both share: a config, a trade
+//! of its two members, and frames.
 ghost use Rattle.std.specs.Prelude.{◌≡◌, ◌<◌, ◌≤◌, ◌^◌, true, length, IfOk};
 ghost use Rattle.drop_copy.specs.Desks.{AreConfigured};
 ghost use Rattle.venue_words.specs.Conditions.{IsConfig, fits_id, fits_limits};
