@@ -5,6 +5,7 @@ ghost use Rattle.drop_copy.specs.Desks.{AreConfigured};
 
 mod copies;
 mod links;
+mod sockets;
 
 use drop_copy::{DropDesk, DropPlan};
 use fix_write::wrap;

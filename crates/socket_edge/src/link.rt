@@ -9,7 +9,7 @@ use std::alloc::Global;
 use std::io::Write;
 use std::rt;
 use std::sync::Wait;
-use std::time::Duration;
+use std::time::{Duration, Instant};
 
 /// How long a pull waits before it answers that nothing is there.
 const PULL_SECONDS: u64 = 1;
@@ -17,7 +17,11 @@ const PULL_SECONDS: u64 = 1;
 /// How many such waits there may be before the socket is read. Where no thread could be started for it, nothing will come.
 const UNREAD_PULLS: u32 = 5;
 
-/// A link over a socket that another thread reads. It tells nothing of what comes and is put.
+/// How long a peer may take to log on.
+const LOGON_SECONDS: u64 = 30;
+
+/// A link over a socket that another thread reads. It tells nothing of what comes and is put. A peer is put nothing before he
+/// logs on, so a link to which nothing was put within 30 seconds fails: whoever sends no Logon holds no connection for longer.
 #[derive(Drop)]
 pub struct SocketLink<'a, R: Wait + rt::Clock, W: Write> {
     rt: &'a R,
@@ -31,6 +35,10 @@ pub struct SocketLink<'a, R: Wait + rt::Clock, W: Write> {
     given: usize,
     /// The waits in which nobody read the socket.
     unread: u32,
+    /// When the link began, until something is put.
+    began: Option<Instant>,
+    /// How long the peer may take to log on.
+    logon: Duration,
     faults: u64,
     ends: u64,
 }
@@ -54,8 +62,26 @@ impl<'a, R: Wait + rt::Clock, W: Write> SocketLink<'a, R, W> {
             piece: Vec::new(alloc),
             given: 0,
             unread: 0,
+            began: Instant::now(rt).ok(),
+            logon: Duration::from_secs(LOGON_SECONDS),
             faults: 0,
             ends: 0,
+        }
+    }
+
+    /// The peer may take so long to log on, in place of 30 seconds.
+    pub fn set_logon_time(&mut self, logon: Duration) {
+        self.logon = logon;
+    }
+
+    /// Whether the peer was put nothing in the time that he has to log on.
+    fn is_late(&self) -> bool {
+        let Some(began) = &self.began else {
+            return false;
+        };
+        match began.elapsed(self.rt) {
+            Ok(waited) => waited >= self.logon,
+            Err(_) => false,
         }
     }
 
@@ -111,6 +137,9 @@ impl<'a, R: Wait + rt::Clock, W: Write> Link for SocketLink<'a, R, W> {
     ghost told = { λ _. None };
 
     fn pull(&mut self, buffer: &mut [u8]) -> Result<Pulled, Failed> {
+        if self.is_late() {
+            return Err(self.fail());
+        }
         if let Some(count) = self.give(buffer) {
             return Ok(Pulled::Bytes(count));
         }
@@ -141,6 +170,7 @@ impl<'a, R: Wait + rt::Clock, W: Write> Link for SocketLink<'a, R, W> {
     }
 
     fn put(&mut self, piece: &[u8]) -> Result<(), Failed> {
+        self.began = None;
         if self.out.write_all(piece).is_err() {
             return Err(self.fail());
         }
