@@ -1,3 +1,4 @@
 -- Lemmas on moves.
 pub mod Halving
 pub mod LastBelow
+pub mod Rising

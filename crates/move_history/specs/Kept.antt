@@ -9,9 +9,9 @@ no_move = record { event = 0; low = 0 }
 abbrev pub low_at : List KeptMove → ℕ → ℕ
 low_at kept i = (get_or kept i no_move).low
 
--- the lows never fall along the list
+-- the lows rise along the list, so no two moves have one low
 abbrev pub IsRising : List KeptMove → Type 0
-IsRising kept = (i j : ℕ) → i ≤ j → j < length kept → low_at kept i ≤ low_at kept j
+IsRising kept = (i j : ℕ) → i < j → j < length kept → low_at kept i < low_at kept j
 
 -- no low is above a value
 abbrev pub AreLowsAtMost : ℕ → List KeptMove → Type 0

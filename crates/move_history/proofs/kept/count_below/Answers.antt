@@ -1,6 +1,7 @@
 use Rattle.std.proofs.Common.{ℕ, ◌+◌, ◌≤◌, ◌-◌, ◌/◌, arith}
 use Rattle.move_history.specs.Kept.{low_at}
 use Rattle.move_history.proofs.Halving.{few_halvings, halve}
+use Rattle.move_history.proofs.Rising.{rising-le}
 use Rattle.move_history.proofs.kept.count_below.Goals as goal
 
 pub loop-start-preserved-then-kept-middle : goal.loop-start-preserved-then-kept-middle
@@ -10,7 +11,7 @@ loop-start-preserved-then-kept-middle g c =
     record {
       order = omega arith;
       within = omega arith;
-      below = λ i h. let r : low_at c.args.kept.now i ≤ low_at c.args.kept.now middle = c.requires.rising i middle (omega arith) (omega arith) in omega arith;
+      below = λ i h. let r : low_at c.args.kept.now i ≤ low_at c.args.kept.now middle = rising-le c.args.kept.now c.requires.rising i middle (omega arith) (omega arith) in omega arith;
       above = c.loop-start.invariant.above;
       counted = omega arith;
       some = λ e. omega arith;
@@ -27,7 +28,7 @@ loop-start-preserved g c =
       order = omega arith;
       within = omega arith;
       below = c.loop-start.invariant.below;
-      above = λ i h k. let r : low_at c.args.kept.now middle ≤ low_at c.args.kept.now i = c.requires.rising middle i (omega arith) k in omega arith;
+      above = λ i h k. let r : low_at c.args.kept.now middle ≤ low_at c.args.kept.now i = rising-le c.args.kept.now c.requires.rising middle i (omega arith) k in omega arith;
       counted = omega arith;
       some = λ e. omega arith;
       most = omega (arith, few);
