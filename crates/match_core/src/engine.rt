@@ -129,6 +129,7 @@ pub trait Engine {
         ensures sells { sells self.new ≡ without row.now.entry (sells self.old) }
         ensures best { best self.new ≡ best self.old }
         ensures latest { latest self.new ≡ latest self.old }
+        ensures fills { fills self.new ≡ fills self.old }
         ensures ready { (key : Option Key) → ready self.old key → ready self.new key }
         ensures width { width self.new ≡ width self.old }
         ensures most { steps.new ≤ steps.old + 512 };
@@ -141,6 +142,7 @@ pub trait Engine {
         ensures sells { sells self.new ≡ map (with_leaves row.now.entry leaves) (sells self.old) }
         ensures best { best self.new ≡ best self.old }
         ensures latest { latest self.new ≡ latest self.old }
+        ensures fills { fills self.new ≡ fills self.old }
         ensures width { width self.new ≡ width self.old }
         ensures most { steps.new ≤ steps.old + 1536 };
 }
