@@ -3,6 +3,8 @@ pub mod Clocks
 pub mod Faults
 pub mod Files
 pub mod Grows
+pub mod Gathering
 pub mod Links
+pub mod MemClocks
 pub mod MemLinks
 pub mod Memory

@@ -1,10 +1,9 @@
--- How a link and a clock in memory are seen.
-use Rattle.std.specs.Prelude.{ℕ, ℤ, List, Option, Some, None, [], ◌∷◌, ◌==◌, ◌-◌, ◌^◌, if◌then◌else◌, map, drop}
+-- How a link in memory is seen.
+use Rattle.std.specs.Prelude.{ℕ, List, [], ◌∷◌, map, drop}
 use Rattle.io_edge.specs.declared.mem_link.LinkItem.{LinkItem}
 use Rattle.io_edge.specs.declared.mem_link.LinkItem.TheVariants.{Piece, Quiet, End}
 use Rattle.io_edge.specs.Links.{Answer}
 use Rattle.io_edge.specs.Links.Answer.{piece, quiet, ended}
-use Rattle.io_edge.specs.Clocks.{first_moments}
 
 -- some bytes, or nothing now
 abbrev pub heard : List ℕ → Answer
@@ -25,7 +24,3 @@ answer_in item = item_from 0 item
 abbrev pub items_from : ℕ → List LinkItem → List Answer
 items_from at [] = []
 items_from at (item ∷ items) = item_from at item ∷ map answer_in items
-
--- the moments of a clock that was asked so often; at the last count it tells nothing
-abbrev pub told_moments : List ℤ → ℕ → Option (List ℤ)
-told_moments moments asked = if asked == 2 ^ 64 - 1 then None else Some (first_moments moments asked)

@@ -1,6 +1,7 @@
 //! The clock of the system, and one in memory.
-ghost use Rattle.std.specs.Prelude.{◌≡◌, [], Some, None};
-ghost use Rattle.io_edge.specs.MemLinks.{told_moments};
+ghost use Rattle.std.specs.Prelude.{◌≡◌, ◌+◌, ◌-◌, ◌^◌, [], min, Some, None};
+ghost use Rattle.io_edge.specs.Clocks.{GaveMoment, moment_at};
+ghost use Rattle.io_edge.specs.MemClocks.{moments_of, times_asked, told_moments};
 
 use crate::link::Clock;
 use std::rt;
@@ -44,16 +45,23 @@ pub struct MemClock {
 impl MemClock {
     /// Without a moment it gives 1970. Once it was asked 2^64 - 1 times, it tells nothing.
     pub fn new(moments: Vec<i64>) -> MemClock
-        ensures { ⟦<MemClock as Clock>⟧.told result ≡ Some [] }
+        ensures moments { moments_of result ≡ moments.items }
+        ensures asked { times_asked result ≡ 0 }
+        ensures told { ⟦<MemClock as Clock>⟧.told result ≡ Some [] }
     {
         MemClock { moments, asked: 0 }
     }
 }
 
 impl Clock for MemClock {
-    ghost told = { λ s. told_moments s.moments.items s.asked };
+    ghost told = { λ s. told_moments (moments_of s) (times_asked s) };
 
-    fn now(&mut self) -> i64 {
+    fn now(&mut self) -> i64
+        ensures told { GaveMoment result (⟦<MemClock as Clock>⟧.told self.old) (⟦<MemClock as Clock>⟧.told self.new) }
+        ensures given { result ≡ moment_at (moments_of self.old) (times_asked self.old) }
+        ensures moments { moments_of self.new ≡ moments_of self.old }
+        ensures asked { times_asked self.new ≡ min (times_asked self.old + 1) (2 ^ 64 - 1) }
+    {
         let last = self.moments.len().saturating_sub(1) as u64;
         let place = self.asked.min(last) as usize;
         self.asked = self.asked.saturating_add(1);

@@ -1,5 +1,5 @@
 //! The outside as the cores see it: files that are read, and streams that are written.
-ghost use Rattle.std.specs.Prelude.{◌≡◌, ◌<◌, ◌≤◌, ℕ, ◌⊎◌, Bool, List, Option, [], length, IsTrue, IsOk, IsSome, OnOk, OnErr, IfOk, None, ⊤};
+ghost use Rattle.std.specs.Prelude.{◌≡◌, ◌<◌, ◌≤◌, ℕ, ◌⊎◌, Bool, List, Option, [], length, IsTrue, IsOk, IsSome, OnOk, OnErr, IfOk, None, ⊤, false};
 ghost use Rattle.std.specs.Io.KnownBytes.{ReadConsumes};
 ghost use Rattle.venue_words.specs.Causes.{HasCause};
 ghost use Rattle.io_edge.specs.Files.{Files, HasFile, Opens, StaysSure};
@@ -29,6 +29,7 @@ pub trait Shelf {
     /// Opens a file at its start. After a failure no file is open.
     fn begin(&mut self, name: &str) -> Result<(), Failed>
         ensures begun { OnOk result (IsTrue (begun self.new)) }
+        ensures shut { OnErr result (begun self.new ≡ false) }
         ensures closed { OnErr result (left self.new ≡ None) }
         ensures opens { OnOk result (Opens (told self.old) name.now (left self.new)) }
         ensures told { told self.new ≡ told self.old }

@@ -168,6 +168,7 @@ impl SureShelf {
         requires { 0 < piece }
         ensures told { ⟦<SureShelf as Shelf>⟧.told result ≡ Some (files_of files.items) }
         ensures sure { ⟦<SureShelf as Shelf>⟧.sure result ≡ true }
+        ensures faults { ⟦<SureShelf as Shelf>⟧.faults result ≡ 0 }
     {
         SureShelf {
             stock: Stock::new(files, piece),
@@ -253,7 +254,9 @@ pub struct SureSink;
 
 impl SureSink {
     /// A sink that never fails.
-    pub fn new() -> SureSink {
+    pub fn new() -> SureSink
+        ensures { ⟦<SureSink as Sink>⟧.faults result ≡ 0 }
+    {
         SureSink
     }
 }
