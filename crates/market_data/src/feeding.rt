@@ -1,5 +1,5 @@
 //! A market data session that is fed piece by piece, and the lines that its messages make.
-ghost use Rattle.std.specs.Prelude.{◌≡◌, ◌≤◌, ◌++◌, ℕ, List, length, IfOk, OnOk, IsSome};
+ghost use Rattle.std.specs.Prelude.{◌≡◌, ◌≤◌, ◌++◌, ℕ, List, length, IfOk, OnOk, OnErr, IsSome, None};
 ghost use Rattle.venue_words.specs.Conditions.{IsConfig};
 ghost use Rattle.market_data.specs.Lines.{handed_quotes, last_moment, lines_from, quotes_in, sending_time};
 ghost use Rattle.session_core.specs.Machine.{on_frame, on_overlong};
@@ -157,6 +157,8 @@ impl Model for MarketSession {
 }
 
 impl MarketSession {
+    ghost use Rattle.session_core.specs.Machine.{IsOver};
+    ghost use Rattle.session_core.specs.State.{cause_of};
     ghost use Rattle.market_data.specs.Feeding.{unfed};
 
     /// A session with a source, before its first byte.
@@ -171,10 +173,8 @@ impl MarketSession {
         }
     }
 
-    /// Works the next piece of the source's bytes: the lines that it makes are appended to the text, and the cause comes back
-    /// where the session ends in it. Then no further piece is to come. After a refusal the session has ended without a cause,
-    /// and the text may hold a part of the lines.
-    pub fn take(
+    /// Works the next piece of the source's bytes. After a refusal it is not known how far.
+    fn work_piece(
         &mut self,
         config: &Config,
         piece: &[u8],
@@ -194,5 +194,30 @@ impl MarketSession {
             config,
             text,
         )
+    }
+
+    /// Works the next piece of the source's bytes: the lines that it makes are appended to the text, and the cause comes back
+    /// where the session ends in it. Then no further piece is to come. After a refusal the session has ended without a cause,
+    /// and the text may hold a part of the lines.
+    pub fn take(
+        &mut self,
+        config: &Config,
+        piece: &[u8],
+        text: &mut Vec<u8>,
+    ) -> Result<Option<EndCause>, NoMemory>
+        requires { IsConfig config.now }
+        ensures adds { IfOk result (λ ended. (source bytes : List ℕ) → StandsFor config.now source bytes self.old →
+            (added : List ℕ) × (text.new.items ≡ text.old.items ++ added)
+            × Adds config.now source bytes piece.now added ended self.new) }
+        ensures over { OnErr result (IsOver self.new.session) }
+        ensures no_cause { OnErr result (cause_of self.new.session.state.phase ≡ None) }
+    {
+        match self.work_piece(config, piece, text) {
+            Ok(ended) => Ok(ended),
+            Err(_) => {
+                self.session.give_up();
+                Err(NoMemory)
+            }
+        }
     }
 }

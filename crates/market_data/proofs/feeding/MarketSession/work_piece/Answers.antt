@@ -2,7 +2,7 @@
 use Rattle.std.proofs.Common.{◌++◌, ap, ◌∙◌}
 use Rattle.market_data.specs.Feeding.{Feeding, feeding_of}
 use Rattle.market_data.proofs.FeedingSteps.{stands_fed, map_if_ok}
-use Rattle.market_data.proofs.feeding.MarketSession.take.Goals as goal
+use Rattle.market_data.proofs.feeding.MarketSession.work_piece.Goals as goal
 
 pub returns : goal.returns
 returns c = record {
