@@ -28,7 +28,7 @@ use Rattle.script_text.specs.declared.fault.LineFault.TheVariants as fault
 use Rattle.script_text.specs.declared.fault.LimitCause.TheVariants.{Line}
 use Rattle.day_core.specs.Agreement.{IsFront, DiffersFirst, Agrees, kept}
 use Rattle.day_core.specs.Crashes.{Follows, Holds, Stored}
-use Rattle.day_core.specs.Days.{Cause, IsRefused, Output, PutsPart, Worked, lines_of}
+use Rattle.day_core.specs.Days.{BreaksOff, Cause, IsRefused, Output, PutsPart, Worked, lines_of}
 use Rattle.day_core.specs.Keeping.{Continued, Fails, IsKept, IsNew, IsNotKept, IsOther, ReadAs}
 use Rattle.day_core.specs.Middle.{AtLine, EndsIn, InDay, IsLate, PutsNothing, PutsPartly, RanFile, Stands, ended_by}
 use Rattle.day_core.specs.Refusing.{day_step, refusal, refusal_from, refusal_here}
@@ -47,11 +47,13 @@ pub record SourceOf (first left : Option (List ℕ)) (all : List ℕ) : Type 0 w
   pub rest : List ℕ
   pub told : IfSome first (λ bytes. all ++ rest ≡ bytes)
   pub ended : IsAtEnd left → rest ≡ []
+  pub place : IfSome left (λ there. there ≡ rest)
 
 source_of : (first left : Option (List ℕ)) (all : List ℕ) → Consumes first left all → SourceOf first left all
-source_of None left all x = record { rest = []; told = tt; ended = λ _. refl }
+source_of None None all x = record { rest = []; told = tt; ended = λ _. refl; place = tt }
+source_of None (Some rest) all x = record { rest = rest; told = tt; ended = λ e. e; place = refl }
 source_of (Some bytes) None all x = absurd x
-source_of (Some bytes) (Some rest) all x = record { rest = rest; told = sym x; ended = λ e. e }
+source_of (Some bytes) (Some rest) all x = record { rest = rest; told = sym x; ended = λ e. e; place = refl }
 
 -- the same bytes
 same_told : (first : Option (List ℕ)) (bytes other : List ℕ) → bytes ≡ other → IfSome first (λ all. bytes ≡ all) → IfSome first (λ all. other ≡ all)
@@ -74,12 +76,12 @@ is_there None p e = absurd (cc)
 is_there (Some q) p e = refl
 
 -- no more was put, and the script goes on so
-pub worked_so : {F : Type 0} (at : F → ℕ → SymbolView) (first left : Option (List ℕ)) (old t u : Seen) (reader : Reading) (phase : Phase F)
+pub worked_so : {F : Type 0} (at : F → ℕ → SymbolView) (first left now : Option (List ℕ)) (old t u : Seen) (reader : Reading) (phase : Phase F)
     (journal : List (List ℕ)) (worked more : List ℕ) (status : DayStatus) (x : InDay at first left old t reader phase journal worked)
     → u.told ≡ t.told → u.steps ≤ t.steps + (played x.place more).steps
-    → (Appends old.told u.told (script worked).text → Output status old.told u.told worked) → Cause (worked ++ more) worked status
-    → Worked (worked ++ more) worked old u status
-worked_so at first left old t u reader phase journal worked more status x told counted output cause =
+    → (Appends old.told u.told (script worked).text → Output status old.told u.told worked) → Cause (worked ++ more) worked now status
+    → Worked (worked ++ more) worked now old u status
+worked_so at first left now old t u reader phase journal worked more status x told counted output cause =
     let all : script (worked ++ more) ≡ onto x.leads.done x.leads.spent (played x.place more) = x.leads.goes more in
     let steps : (script (worked ++ more)).steps ≡ x.leads.spent + (played x.place more).steps = ap (λ (p : Played). p.steps) all in
     record {
@@ -212,11 +214,11 @@ puts_part at first left old t u reader phase behind journal worked line x clear 
       grew = rw (all, some) (appends_trans old.told t.told u.told x.leads.done (take y.grew.0 y.took.text) x.leads.grew y.grew.1);
     }
 
-worked_part : {F : Type 0} (at : F → ℕ → SymbolView) (first left : Option (List ℕ)) (old t u : Seen) (reader : Reading) (phase behind : Phase F)
+worked_part : {F : Type 0} (at : F → ℕ → SymbolView) (first left now : Option (List ℕ)) (old t u : Seen) (reader : Reading) (phase behind : Phase F)
     (journal : List (List ℕ)) (worked line more : List ℕ) (x : InDay at first left old t reader phase journal worked) → has_end line ≡ false
     → PutsPartly at t u x.place line behind
-    → Worked (worked ++ (line ++ 10 ∷ more)) (worked ++ (line ++ 10 ∷ [])) old u WriteFault
-worked_part at first left old t u reader phase behind journal worked line more x clear y =
+    → Worked (worked ++ (line ++ 10 ∷ more)) (worked ++ (line ++ 10 ∷ [])) now old u WriteFault
+worked_part at first left now old t u reader phase behind journal worked line more x clear y =
     let pushed : lines_of (worked ++ (line ++ 10 ∷ [])) ≡ lines_of worked ++ line ∷ [] = lines_push worked line x.whole clear in
     let there : place_behind start (lines_of (worked ++ (line ++ 10 ∷ []))) ≡ Some y.took.next =
     ap (λ (l : List (List ℕ)). place_behind start l) pushed
@@ -256,10 +258,10 @@ line_still : {F D : Type 0} (at : F → ℕ → SymbolView) (told : D → Told) 
     (status : DayStatus) (x : InLine at told first before left old t reader next phase journal opened log line is_over)
     → PutsNothing t u x.here.day.place line → then ≡ log → IsLate status
     → (Appends old.told u.told (script x.here.worked).text → Output status old.told u.told x.here.worked)
-    → ((more : List ℕ) → Cause (line_bytes x.here.worked line more) x.here.worked status)
+    → ((more : List ℕ) → Cause (line_bytes x.here.worked line more) x.here.worked left status)
     → ((more : List ℕ) → Agrees journal (lines_of (line_bytes x.here.worked line more)) (lines_of x.here.worked) status)
     → (Holds (kept journal (lines_of x.here.worked)) (told then.disk) → Stored journal (lines_of x.here.worked) (told then.disk) status)
-    → RanFile first journal opened (told then.disk) old u status
+    → RanFile first left journal opened (told then.disk) old u status
 line_still at told first before left old t u reader next phase journal opened log then line is_over status x y same late output cause agrees stored =
     let source = source_of first left (x.here.worked ++ (line ++ 10 ∷ next.held))
     (taken_more first before left x.here.worked reader.held (line ++ 10 ∷ next.held) x.here.day.taken x.handed.reads) in
@@ -268,7 +270,7 @@ line_still at told first before left old t u reader next phase journal opened lo
       bytes = line_bytes x.here.worked line more;
       told = same_told first _ (line_bytes x.here.worked line more) (whole_bytes x.here.worked line next.held source.rest) source.told;
       given = x.here.worked;
-      worked = worked_so at first before old t u reader phase journal x.here.worked (line ++ 10 ∷ more) status x.here.day y.told
+      worked = worked_so at first before left old t u reader phase journal x.here.worked (line ++ 10 ∷ more) status x.here.day y.told
           (omega (arith, y.steps, line_steps x.here.day.place line more x.handed.clear)) output (cause more);
       continued = λ honest. stored_still told journal (lines_of x.here.worked) (lines_of (line_bytes x.here.worked line more)) opened log then status
           same (front_at x.here.worked (line ++ 10 ∷ more) x.here.day.whole) (x.here.stands honest) (agrees more) stored;
@@ -297,7 +299,7 @@ line_failed : {F D : Type 0} (at : F → ℕ → SymbolView) (told : D → Told)
     (x : InLine at told first before left old t reader next phase journal opened log line is_over)
     → PutsNothing t u x.here.day.place line → length journal < reader.lines + 1 → Fails told log then line
     → ((told then.disk).honest ≡ true → (at : ℕ) (file : List ℕ) → at ≤ (told then.disk).moment → (told then.disk).may_leave file → (told then.disk).left_since at file)
-    → RanFile first journal opened (told then.disk) old u DiskFault
+    → RanFile first left journal opened (told then.disk) old u DiskFault
 line_failed at told first before left old t u reader next phase journal opened log then line is_over x y less step counts =
     let source = source_of first left (x.here.worked ++ (line ++ 10 ∷ next.held))
     (taken_more first before left x.here.worked reader.held (line ++ 10 ∷ next.held) x.here.day.taken x.handed.reads) in
@@ -309,7 +311,7 @@ line_failed at told first before left old t u reader next phase journal opened l
       bytes = line_bytes x.here.worked line more;
       told = same_told first _ (line_bytes x.here.worked line more) (whole_bytes x.here.worked line next.held source.rest) source.told;
       given = x.here.worked;
-      worked = worked_so at first before old t u reader phase journal x.here.worked (line ++ 10 ∷ more) DiskFault x.here.day y.told
+      worked = worked_so at first before left old t u reader phase journal x.here.worked (line ++ 10 ∷ more) DiskFault x.here.day y.told
           (omega (arith, y.steps, line_steps x.here.day.place line more x.handed.clear)) (λ grew. grew) tt;
       continued = λ honest.
           let old_honest : (told log.disk).honest ≡ true = x.here.honest ∙ honest in
@@ -330,7 +332,7 @@ line_part : {F D : Type 0} (at : F → ℕ → SymbolView) (told : D → Told) (
     (reader next : Reading) (phase behind : Phase F) (journal : List (List ℕ)) (opened : Told) (log then : LogView D) (line : List ℕ) (is_over : Bool)
     (x : InLine at told first before left old t reader next phase journal opened log line is_over)
     → PutsPartly at t u x.here.day.place line behind → IsKept told journal log then (reader.lines + 1) line
-    → RanFile first journal opened (told then.disk) old u WriteFault
+    → RanFile first left journal opened (told then.disk) old u WriteFault
 line_part at told first before left old t u reader next phase behind journal opened log then line is_over x y step =
     let source = source_of first left (x.here.worked ++ (line ++ 10 ∷ next.held))
     (taken_more first before left x.here.worked reader.held (line ++ 10 ∷ next.held) x.here.day.taken x.handed.reads) in
@@ -343,7 +345,7 @@ line_part at told first before left old t u reader next phase behind journal ope
       bytes = line_bytes x.here.worked line more;
       told = same_told first _ (line_bytes x.here.worked line more) (whole_bytes x.here.worked line next.held source.rest) source.told;
       given = x.here.worked ++ (line ++ 10 ∷ []);
-      worked = worked_part at first before old t u reader phase behind journal x.here.worked line more x.here.day x.handed.clear y;
+      worked = worked_part at first before left old t u reader phase behind journal x.here.worked line more x.here.day x.handed.clear y;
       continued = λ honest.
           let stands : Stands journal (lines ++ line ∷ []) opened (told then.disk) =
           stands_next told journal lines line opened log then (x.found honest) (past_front journal lines x.here.day.agrees)
@@ -362,7 +364,7 @@ pub line_ends : {F D : Type 0} (at : F → ℕ → SymbolView) (told : D → Tol
     (status : DayStatus) (x : InLine at told first before left old t reader next phase journal opened log line is_over)
     → EndsIn at t u x.here.day.place line behind status → IsNotKept told journal log then (reader.lines + 1) line status
     → ((told then.disk).honest ≡ true → (at : ℕ) (file : List ℕ) → at ≤ (told then.disk).moment → (told then.disk).may_leave file → (told then.disk).left_since at file)
-    → RanFile first journal opened (told then.disk) old u status
+    → RanFile first left journal opened (told then.disk) old u status
 line_ends at told first before left old t u reader next phase behind journal opened log then line is_over Done x y step counts = absurd y
 line_ends at told first before left old t u reader next phase behind journal opened log then line is_over BadWords x y step counts = absurd y
 line_ends at told first before left old t u reader next phase behind journal opened log then line is_over (Damaged place) x y step counts = absurd y
@@ -397,30 +399,43 @@ file_still : {F D : Type 0} (at : F → ℕ → SymbolView) (told : D → Told) 
     (x : AtLine at told first before old t reader phase journal opened log)
     → IfSome first (λ bytes. x.worked ++ more ≡ bytes) → IsLate status
     → (Appends old.told t.told (script x.worked).text → Output status old.told t.told x.worked)
-    → Cause (x.worked ++ more) x.worked status
+    → Cause (x.worked ++ more) x.worked left status
     → (opened.honest ≡ true → Agrees journal (lines_of (x.worked ++ more)) (lines_of x.worked) status)
     → (Holds (kept journal (lines_of x.worked)) (told log.disk) → Stored journal (lines_of x.worked) (told log.disk) status)
-    → RanFile first journal opened (told log.disk) old t status
+    → RanFile first left journal opened (told log.disk) old t status
 file_still at told first before left old t reader phase journal opened log more status x source late output cause agrees stored = record {
   bytes = x.worked ++ more;
   told = source;
   given = x.worked;
-  worked = worked_so at first before old t t reader phase journal x.worked more status x.day refl (omega arith) output cause;
+  worked = worked_so at first before left old t t reader phase journal x.worked more status x.day refl (omega arith) output cause;
   continued = λ honest. stored_still told journal (lines_of x.worked) (lines_of (x.worked ++ more)) opened log log status refl
       (front_at x.worked more x.day.whole) (x.stands honest) (agrees honest) stored;
   late = late;
+}
+
+-- what was read before a failed read
+broken_off : (bytes given part rest : List ℕ) (left : Option (List ℕ)) → bytes ≡ (given ++ part) ++ rest → lines_of part ≡ []
+    → IfSome left (λ there. there ≡ rest) → IfSome left (BreaksOff bytes given)
+broken_off bytes given part rest None whole none place = tt
+broken_off bytes given part rest (Some there) whole none place = record {
+  part = part;
+  unfinished = none;
+  whole = whole ∙ ap (λ (r : List ℕ). (given ++ part) ++ r) (sym place);
 }
 
 -- a read failed
 pub cut_off : {F D : Type 0} (at : F → ℕ → SymbolView) (told : D → Told) (first before left : Option (List ℕ)) (old t : Seen)
     (reader next : Reading) (phase : Phase F) (journal : List (List ℕ)) (opened : Told) (log : LogView D)
     (x : AtLine at told first before old t reader phase journal opened log) → IsCutOff reader next before left
-    → RanFile first journal opened (told log.disk) old t ReadFault
+    → RanFile first left journal opened (told log.disk) old t ReadFault
 cut_off at told first before left old t reader next phase journal opened log x h =
     let source = source_of first left (x.worked ++ next.held)
     (taken_more first before left x.worked reader.held next.held x.day.taken h.reads) in
+    let cause = broken_off (x.worked ++ (next.held ++ source.rest)) x.worked next.held source.rest left
+    (sym (append_assoc x.worked next.held source.rest)) (no_line next.held h.clear) source.place in
     file_still at told first before left old t reader phase journal opened log (next.held ++ source.rest) ReadFault x
-    (same_told first _ (x.worked ++ (next.held ++ source.rest)) (append_assoc x.worked next.held source.rest) source.told) tt (λ grew. grew) tt (λ _. tt) (λ holds. holds)
+    (same_told first _ (x.worked ++ (next.held ++ source.rest)) (append_assoc x.worked next.held source.rest) source.told) tt (λ grew. grew) cause
+    (λ _. tt) (λ holds. holds)
 
 -- the journal has a line behind those of the script
 had_there : (journal : List (List ℕ)) (worked more : List ℕ) (n : ℕ) → (cut worked).rest ≡ [] → lines_of more ≡ []
@@ -453,7 +468,7 @@ pub end_differs : {F D : Type 0} (at : F → ℕ → SymbolView) (told : D → T
     (reader next : Reading) (phase : Phase F) (journal : List (List ℕ)) (opened : Told) (log : LogView D) (rest : List ℕ) (n : ℕ) (had : Bool)
     (x : AtLine at told first before old t reader phase journal opened log) → IsAllRead reader next before left rest
     → n ≡ reader.lines + 1 → had ≡ nat_le n (length journal) → had ≡ true
-    → RanFile first journal opened (told log.disk) old t (Differs n)
+    → RanFile first left journal opened (told log.disk) old t (Differs n)
 end_differs at told first before left old t reader next phase journal opened log rest n had x h same test true_is =
     let number : n ≡ length (lines_of x.worked) + 1 = same ∙ ap (λ (k : ℕ). k + 1) (sym x.day.count) in
     file_still at told first before left old t reader phase journal opened log rest (Differs n) x
@@ -482,7 +497,7 @@ end_so : {F D : Type 0} (at : F → ℕ → SymbolView) (told : D → Told) (fir
     → IfSome first (λ bytes. x.worked ++ rest ≡ bytes) → n ≡ length (lines_of x.worked) + 1 → length journal < n
     → (why ≡ Some fault.NoMemory → ⊥) → (why ≡ None → rest ≡ [])
     → refusal (x.worked ++ rest) ≡ refusal_here (length (lines_of x.worked)) why
-    → RanFile first journal opened (told log.disk) old t (ended_by why)
+    → RanFile first left journal opened (told log.disk) old t (ended_by why)
 end_so at told first before left old t reader phase journal opened log rest n None x source number less wanted none e =
     let all : x.worked ++ rest ≡ x.worked = ap (λ (r : List ℕ). x.worked ++ r) (none refl) ∙ append-nil x.worked in
     file_still at told first before left old t reader phase journal opened log rest Done x source tt (λ grew. grew) (sym all, e)
@@ -514,7 +529,7 @@ pub script_ends : {F D : Type 0} (at : F → ℕ → SymbolView) (told : D → T
     (reader next : Reading) (phase : Phase F) (journal : List (List ℕ)) (opened : Told) (log : LogView D) (rest : List ℕ) (n : ℕ) (had : Bool)
     (x : AtLine at told first before old t reader phase journal opened log) → IsAllRead reader next before left rest
     → n ≡ reader.lines + 1 → had ≡ nat_le n (length journal) → had ≡ false
-    → RanFile first journal opened (told log.disk) old t (ended_by (end_at x.day.place rest).fault)
+    → RanFile first left journal opened (told log.disk) old t (ended_by (end_at x.day.place rest).fault)
 script_ends at told first before left old t reader next phase journal opened log rest n had x h same test false_is =
     let number : n ≡ length (lines_of x.worked) + 1 = same ∙ ap (λ (k : ℕ). k + 1) (sym x.day.count) in
     end_so at told first before left old t reader phase journal opened log rest n (end_at x.day.place rest).fault x
@@ -531,7 +546,7 @@ pub long_limit : {F D : Type 0} (at : F → ℕ → SymbolView) (told : D → To
     (reader next : Reading) (phase : Phase F) (journal : List (List ℕ)) (opened : Told) (log : LogView D) (n : ℕ) (had : Bool)
     (x : AtLine at told first before old t reader phase journal opened log) → IsTooLong reader next before left
     → n ≡ reader.lines + 1 → had ≡ nat_le n (length journal) → had ≡ false
-    → RanFile first journal opened (told log.disk) old t (LimitLine n Line)
+    → RanFile first left journal opened (told log.disk) old t (LimitLine n Line)
 long_limit at told first before left old t reader next phase journal opened log n had x h same test false_is =
     let source = source_of first left (x.worked ++ next.held)
     (taken_more first before left x.worked reader.held next.held x.day.taken h.reads) in
@@ -564,7 +579,7 @@ pub long_differs : {F D : Type 0} (at : F → ℕ → SymbolView) (told : D → 
     (x : AtLine at told first before old t reader phase journal opened log) → (opened.honest ≡ true → reading opened.seen ≡ intact journal)
     → IsTooLong reader next before left
     → n ≡ reader.lines + 1 → had ≡ nat_le n (length journal) → had ≡ true
-    → RanFile first journal opened (told log.disk) old t (Differs n)
+    → RanFile first left journal opened (told log.disk) old t (Differs n)
 long_differs at told first before left old t reader next phase journal opened log n had x found h same test true_is =
     let source = source_of first left (x.worked ++ next.held)
     (taken_more first before left x.worked reader.held next.held x.day.taken h.reads) in

@@ -101,10 +101,10 @@ unfolding played play cut end_at
 nothing_put t = appends_none t
 
 -- nothing was worked
-unworked : (bytes : List ℕ) (t : Seen) (status : DayStatus) → (Appends t.told t.told (script []).text → Output status t.told t.told [])
-    → Cause bytes [] status → Worked bytes [] t t status
+unworked : (bytes : List ℕ) (left : Option (List ℕ)) (t : Seen) (status : DayStatus) → (Appends t.told t.told (script []).text → Output status t.told t.told [])
+    → Cause bytes [] left status → Worked bytes [] left t t status
 unfolding cut place_behind
-unworked bytes t status output cause = record {
+unworked bytes left t status output cause = record {
   rest = bytes;
   whole = refl;
   lines = refl;
@@ -134,15 +134,15 @@ late_start journal lines opened status holds now agrees stored = record {
       (follows_more [] lines (ReadAs journal) (front_none lines));
 }
 
-pub script_no_memory : (files : Option Files) (name : List ℕ) (journal : List (List ℕ)) (opened : Told) (t : Seen)
+pub script_no_memory : (files : Option Files) (name : List ℕ) (left : Option (List ℕ)) (journal : List (List ℕ)) (opened : Told) (t : Seen)
     → (opened.honest ≡ true → Holds journal opened)
     → (opened.honest ≡ true → (file : List ℕ) → opened.left_since opened.moment file → opened.may_leave file)
-    → RanScript files name journal opened opened t t NoMemory
-script_no_memory files name journal opened t holds now = record {
+    → RanScript files name left journal opened opened t t NoMemory
+script_no_memory files name left journal opened t holds now = record {
   bytes = the_script files (Some name);
   script = is_script files (Some name);
   given = [];
-  worked = unworked (the_script files (Some name)) t NoMemory (λ grew. grew) tt;
+  worked = unworked (the_script files (Some name)) left t NoMemory (λ grew. grew) tt;
   continued = λ honest. late_start journal (lines_of (the_script files (Some name))) opened NoMemory (holds honest) (now honest) tt (first_none opened);
   late = tt;
   missing = λ _. (tt, refl);
@@ -152,15 +152,19 @@ kept_start : (journal : List (List ℕ)) (opened : Told) → Holds journal opene
 unfolding cut
 kept_start journal opened holds = holds
 
-pub script_not_begun : (files : Option Files) (name : List ℕ) (journal : List (List ℕ)) (opened : Told) (t : Seen)
+not_there : (left : Option (List ℕ)) (bytes : List ℕ) → left ≡ None → Cause bytes [] left ReadFault
+not_there None bytes none = tt
+not_there (Some rest) bytes none = absurd (cc)
+
+pub script_not_begun : (files : Option Files) (name : List ℕ) (left : Option (List ℕ)) (journal : List (List ℕ)) (opened : Told) (t : Seen)
     → (opened.honest ≡ true → Holds journal opened)
     → (opened.honest ≡ true → (file : List ℕ) → opened.left_since opened.moment file → opened.may_leave file)
-    → RanScript files name journal opened opened t t ReadFault
-script_not_begun files name journal opened t holds now = record {
+    → left ≡ None → RanScript files name left journal opened opened t t ReadFault
+script_not_begun files name left journal opened t holds now closed = record {
   bytes = the_script files (Some name);
   script = is_script files (Some name);
   given = [];
-  worked = unworked (the_script files (Some name)) t ReadFault (λ grew. grew) tt;
+  worked = unworked (the_script files (Some name)) left t ReadFault (λ grew. grew) (not_there left (the_script files (Some name)) closed);
   continued = λ honest. late_start journal (lines_of (the_script files (Some name))) opened ReadFault (holds honest) (now honest) tt
       (kept_start journal opened (holds honest));
   late = tt;
@@ -183,10 +187,10 @@ not_missing : (files : Option Files) (name : List ℕ) (left : Option (List ℕ)
 not_missing None name left x lacks = lacks
 not_missing (Some files) name left x lacks = some_none (file_named files name) x.0 lacks.1
 
-pub script_begun : (files : Option Files) (name : List ℕ) (left : Option (List ℕ)) (journal : List (List ℕ)) (opened now : Told) (old new : Seen)
-    (status : DayStatus) → Opens files name left → RanFile left journal opened now old new status
-    → RanScript files name journal opened now old new status
-script_begun files name left journal opened now old new status x ran = record {
+pub script_begun : (files : Option Files) (name : List ℕ) (left unread : Option (List ℕ)) (journal : List (List ℕ)) (opened now : Told)
+    (old new : Seen) (status : DayStatus) → Opens files name left → RanFile left unread journal opened now old new status
+    → RanScript files name unread journal opened now old new status
+script_begun files name left unread journal opened now old new status x ran = record {
   bytes = ran.bytes;
   script = begun_script files name left ran.bytes x ran.told;
   given = ran.given;
@@ -210,17 +214,17 @@ opening_output (Differs n) t x grew = absurd x
 opening_output ReadFault t x grew = absurd x
 opening_output WriteFault t x grew = absurd x
 
-opening_cause : (status : DayStatus) (bytes : List ℕ) → IsOpening status → Cause bytes [] status
-opening_cause DiskFault bytes x = tt
-opening_cause (Damaged at) bytes x = refl
-opening_cause NoMemory bytes x = tt
-opening_cause Done bytes x = absurd x
-opening_cause BadWords bytes x = absurd x
-opening_cause (BadLine n cause) bytes x = absurd x
-opening_cause (LimitLine n which) bytes x = absurd x
-opening_cause (Differs n) bytes x = absurd x
-opening_cause ReadFault bytes x = absurd x
-opening_cause WriteFault bytes x = absurd x
+opening_cause : (status : DayStatus) (bytes : List ℕ) (left : Option (List ℕ)) → IsOpening status → Cause bytes [] left status
+opening_cause DiskFault bytes left x = tt
+opening_cause (Damaged at) bytes left x = refl
+opening_cause NoMemory bytes left x = tt
+opening_cause Done bytes left x = absurd x
+opening_cause BadWords bytes left x = absurd x
+opening_cause (BadLine n cause) bytes left x = absurd x
+opening_cause (LimitLine n which) bytes left x = absurd x
+opening_cause (Differs n) bytes left x = absurd x
+opening_cause ReadFault bytes left x = absurd x
+opening_cause WriteFault bytes left x = absurd x
 
 opening_agrees : (status : DayStatus) (journal lines : List (List ℕ)) → IsOpening status → Agrees journal lines (lines_of []) status
 opening_agrees DiskFault journal lines x = tt
@@ -259,16 +263,16 @@ opening_early (Differs n) x = absurd x
 opening_early ReadFault x = absurd x
 opening_early WriteFault x = absurd x
 
-pub files_not_opened : (files : Option Files) (name : List ℕ) (start now : Told) (t : Seen) (status : DayStatus) → IsNotOpened start now status
-    → RanFiles files name start now t t status
-files_not_opened files name start now t status x =
+pub files_not_opened : (files : Option Files) (name : List ℕ) (left : Option (List ℕ)) (start now : Told) (t : Seen) (status : DayStatus) → IsNotOpened start now status
+    → RanFiles files name left start now t t status
+files_not_opened files name left start now t status x =
     let bytes = the_script files (Some name) in
     record {
       bytes = bytes;
       script = is_script files (Some name);
       ran = record {
         given = [];
-        worked = unworked bytes t status (opening_output status t.told x.opening) (opening_cause status bytes x.opening);
+        worked = unworked bytes left t status (opening_output status t.told x.opening) (opening_cause status bytes left x.opening);
         journal = λ honest. record {
           found = x.found honest;
           agrees = opening_agrees status (reading start.seen).lines (lines_of bytes) x.opening;
@@ -318,10 +322,10 @@ journaled journal lines worked start opened now status x may late c =
           (since_start journal lines start x.found may);
     }
 
-pub files_opened : {D : Type 0} (told : D → Told) (files : Option Files) (name : List ℕ) (disk : D) (log : LogView D) (journal : List (List ℕ))
+pub files_opened : {D : Type 0} (told : D → Told) (files : Option Files) (name : List ℕ) (left : Option (List ℕ)) (disk : D) (log : LogView D) (journal : List (List ℕ))
     (now : Told) (old new : Seen) (status : DayStatus) → IsOpened told disk log journal → ((told disk).honest ≡ true → (told disk).may_leave (told disk).seen)
-    → RanScript files name journal (told log.disk) now old new status → RanFiles files name (told disk) now old new status
-files_opened told files name disk log journal now old new status x may ran = record {
+    → RanScript files name left journal (told log.disk) now old new status → RanFiles files name left (told disk) now old new status
+files_opened told files name left disk log journal now old new status x may ran = record {
   bytes = ran.bytes;
   script = ran.script;
   ran = record {
@@ -337,14 +341,14 @@ files_opened told files name disk log journal now old new status x may ran = rec
 -- ---- the words
 
 -- the disk was not touched
-untouched : (bytes : List ℕ) (disk : Told) (t : Seen) (status : DayStatus)
+untouched : (bytes : List ℕ) (left : Option (List ℕ)) (disk : Told) (t : Seen) (status : DayStatus)
     → (disk.honest ≡ true → (file : List ℕ) → disk.left_since disk.moment file → disk.may_leave file)
-    → (Appends t.told t.told (script []).text → Output status t.told t.told []) → Cause bytes [] status
+    → (Appends t.told t.told (script []).text → Output status t.told t.told []) → Cause bytes [] left status
     → Found (reading disk.seen) status → Agrees (reading disk.seen).lines (lines_of bytes) (lines_of []) status
-    → Stored (reading disk.seen).lines (lines_of []) disk status → Ran bytes disk disk t t status
-untouched bytes disk t status now output cause found agrees stored = record {
+    → Stored (reading disk.seen).lines (lines_of []) disk status → Ran bytes left disk disk t t status
+untouched bytes left disk t status now output cause found agrees stored = record {
   given = [];
-  worked = unworked bytes t status output cause;
+  worked = unworked bytes left t status output cause;
   journal = λ honest. record {
     found = found;
     agrees = agrees;
@@ -358,31 +362,31 @@ no_script None words e x = x
 no_script (Some files) words e x =
     none_some (script_named words) (ap (λ (o : Option DayFiles). option_map (λ f. f.script) o) e) x.0
 
-pub no_form : (files : Option Files) (words : List (List ℕ)) (disk : Told) (t : Seen)
+pub no_form : (files : Option Files) (words : List (List ℕ)) (left : Option (List ℕ)) (disk : Told) (t : Seen)
     → (disk.honest ≡ true → (file : List ℕ) → disk.left_since disk.moment file → disk.may_leave file)
-    → files_of words ≡ None → Ends files words disk disk t t BadWords
-no_form files words disk t now e = record {
+    → files_of words ≡ None → Ends files words left disk disk t t BadWords
+no_form files words left disk t now e = record {
   bytes = the_script files (script_named words);
   script = is_script files (script_named words);
-  ran = untouched (the_script files (script_named words)) disk t BadWords now (λ grew. grew) refl tt tt (first_none disk);
+  ran = untouched (the_script files (script_named words)) left disk t BadWords now (λ grew. grew) refl tt tt (first_none disk);
   bad_words = λ _. e;
   other_words = λ _. (inl refl, refl);
   missing = λ lacks. absurd (no_script files words e lacks);
 }
 
-pub no_memory : (files : Option Files) (words : List (List ℕ)) (disk : Told) (t : Seen)
-    → (disk.honest ≡ true → (file : List ℕ) → disk.left_since disk.moment file → disk.may_leave file) → Ends files words disk disk t t NoMemory
-no_memory files words disk t now = record {
+pub no_memory : (files : Option Files) (words : List (List ℕ)) (left : Option (List ℕ)) (disk : Told) (t : Seen)
+    → (disk.honest ≡ true → (file : List ℕ) → disk.left_since disk.moment file → disk.may_leave file) → Ends files words left disk disk t t NoMemory
+no_memory files words left disk t now = record {
   bytes = the_script files (script_named words);
   script = is_script files (script_named words);
-  ran = untouched (the_script files (script_named words)) disk t NoMemory now (λ grew. grew) tt tt tt (first_none disk);
+  ran = untouched (the_script files (script_named words)) left disk t NoMemory now (λ grew. grew) tt tt tt (first_none disk);
   bad_words = λ e. absurd (cc);
   other_words = λ _. (inr refl, refl);
   missing = λ _. (tt, refl);
 }
 
-pub words_without_form : (files : Option Files) (words : List (List ℕ)) (disk : Told) (t : Seen) (why : WordFault)
+pub words_without_form : (files : Option Files) (words : List (List ℕ)) (left : Option (List ℕ)) (disk : Told) (t : Seen) (why : WordFault)
     → (disk.honest ≡ true → (file : List ℕ) → disk.left_since disk.moment file → disk.may_leave file)
-    → (why ≡ word.BadWords → files_of words ≡ None) → Ends files words disk disk t t (words_refused why)
-words_without_form files words disk t word.BadWords now h = no_form files words disk t now (h refl)
-words_without_form files words disk t word.NoMemory now h = no_memory files words disk t now
+    → (why ≡ word.BadWords → files_of words ≡ None) → Ends files words left disk disk t t (words_refused why)
+words_without_form files words left disk t word.BadWords now h = no_form files words left disk t now (h refl)
+words_without_form files words left disk t word.NoMemory now h = no_memory files words left disk t now

@@ -1,5 +1,5 @@
 -- What a day comes to: a script worked over a journal.
-use Rattle.std.specs.Prelude.{◌≡◌, ◌≤◌, ◌+◌, ◌⊎◌, ℕ, true, List, [], ◌++◌, length, take, Option, Some, None, IsSome}
+use Rattle.std.specs.Prelude.{◌≡◌, ◌≤◌, ◌+◌, ◌⊎◌, ℕ, true, List, [], ◌++◌, length, take, Option, Some, None, IfSome, IsSome}
 use Rattle.std.specs.Io.KnownBytes.{Appends}
 use Rattle.venue_words.specs.declared.limits.TheConstants.{MAX_DAY_BYTES}
 use Rattle.day_journal.specs.Disk.{Told, LeavesOnly}
@@ -40,25 +40,33 @@ Output _ old new given = Appends old new (script given).text
 abbrev pub IsRefused : List ℕ → List ℕ → LineFault → Type 0
 IsRefused bytes given why = refusal bytes ≡ refusal_here (length (lines_of given)) (Some why)
 
--- why the day ended behind these lines of the script
-abbrev pub Cause : List ℕ → List ℕ → DayStatus → Type 0
-Cause bytes given Done = (given ≡ bytes) × (refusal bytes ≡ None)
-Cause bytes given (BadLine n cause) = IsRefused bytes given (fault.Bad n cause)
-Cause bytes given (LimitLine n which) = IsRefused bytes given (fault.Limit n which)
-Cause bytes given (Differs n) = n ≡ length (lines_of given) + 1
-Cause bytes given BadWords = given ≡ []
-Cause bytes given (Damaged at) = given ≡ []
-Cause bytes given _ = Unit {0}
+-- of the script these lines had been read and a part of the next one, and this is left
+pub record BreaksOff (bytes given left : List ℕ) : Type 0 where
+  pub part : List ℕ
+  pub unfinished : lines_of part ≡ []
+  pub whole : bytes ≡ (given ++ part) ++ left
+
+-- why the day ended behind these lines of the script; on a failed read they are all that had been read, where the shelf tells
+-- what is left
+abbrev pub Cause : List ℕ → List ℕ → Option (List ℕ) → DayStatus → Type 0
+Cause bytes given left Done = (given ≡ bytes) × (refusal bytes ≡ None)
+Cause bytes given left (BadLine n cause) = IsRefused bytes given (fault.Bad n cause)
+Cause bytes given left (LimitLine n which) = IsRefused bytes given (fault.Limit n which)
+Cause bytes given left (Differs n) = n ≡ length (lines_of given) + 1
+Cause bytes given left ReadFault = IfSome left (BreaksOff bytes given)
+Cause bytes given left BadWords = given ≡ []
+Cause bytes given left (Damaged at) = given ≡ []
+Cause bytes given left _ = Unit {0}
 
 -- the whole lines that were worked of a script's bytes, none of them refused; what was put, why it ended, and the steps
-pub record Worked (bytes given : List ℕ) (old new : Seen) (status : DayStatus) : Type 0 where
+pub record Worked (bytes given : List ℕ) (left : Option (List ℕ)) (old new : Seen) (status : DayStatus) : Type 0 where
   pub rest : List ℕ
   pub whole : bytes ≡ given ++ rest
   pub lines : (cut given).rest ≡ []
   pub taken : IsSome (place_behind start (lines_of given))
   pub within : length given ≤ MAX_DAY_BYTES
   pub output : Output status old.told new.told given
-  pub cause : Cause bytes given status
+  pub cause : Cause bytes given left status
   pub steps : new.steps ≤ old.steps + (script bytes).steps
 
 -- Over an honest disk: the journal's lines were compared with the script's, each line that was worked is on the disk, and what
@@ -69,10 +77,10 @@ pub record Journaled (lines worked : List (List ℕ)) (start now : Told) (status
   pub stored : Stored (reading start.seen).lines worked now status
   pub crash : LeavesOnly start now (Follows lines start.may_leave)
 
--- a script's bytes, worked over the journal on a disk
-pub record Ran (bytes : List ℕ) (begun ended : Told) (old new : Seen) (status : DayStatus) : Type 0 where
+-- a script's bytes, of which this is left on the shelf, worked over the journal on a disk
+pub record Ran (bytes : List ℕ) (left : Option (List ℕ)) (begun ended : Told) (old new : Seen) (status : DayStatus) : Type 0 where
   pub given : List ℕ
-  pub worked : Worked bytes given old new status
+  pub worked : Worked bytes given left old new status
   pub journal : begun.honest ≡ true → Journaled (lines_of bytes) (lines_of given) begun ended status
 
 -- before a script was opened
@@ -83,12 +91,13 @@ IsEarly ReadFault = Unit {0}
 IsEarly NoMemory = Unit {0}
 IsEarly _ = ⊥
 
--- the status with which a day ends, what was put by then, and what the disk holds
-pub record Ends (files : Option Files) (words : List (List ℕ)) (begun ended : Told) (old new : Seen) (status : DayStatus) : Type 0 where
+-- the status with which a day ends, what was put by then and is left on the shelf, and what the disk holds
+pub record Ends (files : Option Files) (words : List (List ℕ)) (left : Option (List ℕ)) (begun ended : Told) (old new : Seen)
+    (status : DayStatus) : Type 0 where
   -- the bytes of the script, or some bytes where the shelf does not tell them
   pub bytes : List ℕ
   pub script : IsScript files (script_named words) bytes
-  pub ran : Ran bytes begun ended old new status
+  pub ran : Ran bytes left begun ended old new status
   -- words of another form, and a script that is not there: nothing is put, and no step is counted
   pub bad_words : status ≡ BadWords → files_of words ≡ None
   pub other_words : files_of words ≡ None → ((status ≡ BadWords) ⊎ (status ≡ NoMemory)) × (new ≡ old)

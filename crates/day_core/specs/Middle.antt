@@ -107,11 +107,11 @@ abbrev pub ended_by : Option LineFault → DayStatus
 ended_by None = Done
 ended_by (Some why) = refused why
 
--- what became of a file that was begun, over a journal of these lines
-pub record RanFile (first : Option (List ℕ)) (journal : List (List ℕ)) (opened now : Told) (old new : Seen) (status : DayStatus) : Type 0 where
+-- what became of a file that was begun and of which this is left, over a journal of these lines
+pub record RanFile (first left : Option (List ℕ)) (journal : List (List ℕ)) (opened now : Told) (old new : Seen) (status : DayStatus) : Type 0 where
   pub bytes : List ℕ
   pub told : IfSome first (λ all. bytes ≡ all)
   pub given : List ℕ
-  pub worked : Worked bytes given old new status
+  pub worked : Worked bytes given left old new status
   pub continued : opened.honest ≡ true → Continued journal (lines_of bytes) (lines_of given) opened now status
   pub late : IsLate status

@@ -41,20 +41,20 @@ pub record IsNotOpened (start now : Told) (status : DayStatus) : Type 0 where
   pub crash : start.honest ≡ true → LeavesOnly start now (ReadsAsOne start.may_leave)
 
 -- what became of a script over a journal that was opened: of its bytes, where the shelf tells them; one that is not there has none
-pub record RanScript (files : Option Files) (name : List ℕ) (journal : List (List ℕ)) (opened now : Told) (old new : Seen)
-    (status : DayStatus) : Type 0 where
+pub record RanScript (files : Option Files) (name : List ℕ) (left : Option (List ℕ)) (journal : List (List ℕ)) (opened now : Told)
+    (old new : Seen) (status : DayStatus) : Type 0 where
   pub bytes : List ℕ
   pub script : IsScript files (Some name) bytes
   pub given : List ℕ
-  pub worked : Worked bytes given old new status
+  pub worked : Worked bytes given left old new status
   pub continued : opened.honest ≡ true → Continued journal (lines_of bytes) (lines_of given) opened now status
   pub late : IsLate status
   pub missing : LacksScript files (Some name) → IsEarly status × (new ≡ old)
 
 -- what became of a script and its journal
-pub record RanFiles (files : Option Files) (name : List ℕ) (begun ended : Told) (old new : Seen) (status : DayStatus) : Type 0 where
+pub record RanFiles (files : Option Files) (name : List ℕ) (left : Option (List ℕ)) (begun ended : Told) (old new : Seen) (status : DayStatus) : Type 0 where
   pub bytes : List ℕ
   pub script : IsScript files (Some name) bytes
-  pub ran : Ran bytes begun ended old new status
+  pub ran : Ran bytes left begun ended old new status
   pub words : status ≢ BadWords
   pub missing : LacksScript files (Some name) → IsEarly status × (new ≡ old)

@@ -44,7 +44,7 @@ fn work_script<F: PlainFloor, H: Shelf, D: Disk, K: Sink, L: Ledger>(
     requires unspent { journal.old.log.spent ≡ false }
     requires size { journal.old.log.size ≡ size_of journal.old.lines.items }
     requires holds { (D.told journal.old.log.disk).honest ≡ true → Holds journal.old.lines.items (D.told journal.old.log.disk) }
-    ensures ran { RanScript (H.told shelf.old) name.now journal.old.lines.items (D.told journal.old.log.disk) (D.told journal.new.log.disk)
+    ensures ran { RanScript (H.told shelf.old) name.now (H.left shelf.new) journal.old.lines.items (D.told journal.old.log.disk) (D.told journal.new.log.disk)
         (seen (K.told out.old) steps.old) (seen (K.told out.new) steps.new) result }
     ensures named { D.file_name journal.new.log.disk ≡ D.file_name journal.old.log.disk }
     ensures caused { IsCaused (faults (H.faults shelf.old) (K.faults out.old) (D.faults journal.old.log.disk))
@@ -72,7 +72,7 @@ fn work_files<F: PlainFloor, H: Shelf, D: Disk, K: Sink, L: Ledger>(
     steps: &mut Steps<L>,
 ) -> (DayStatus, D)
     requires begun { D.begun disk ≡ false }
-    ensures ran { RanFiles (H.told shelf.old) files.entry.script.now (D.told disk) (D.told result.1)
+    ensures ran { RanFiles (H.told shelf.old) files.entry.script.now (H.left shelf.new) (D.told disk) (D.told result.1)
         (seen (K.told out.old) steps.old) (seen (K.told out.new) steps.new) result.0 }
     ensures journal { D.begun result.1 ≡ true → IfSome (D.file_name result.1) (λ name. name ≡ files.entry.journal.now) }
     ensures caused { IsCaused (faults (H.faults shelf.old) (K.faults out.old) (D.faults disk))
@@ -97,7 +97,7 @@ fn answer<F: PlainFloor, H: Shelf, D: Disk, K: Sink, L: Ledger>(
     steps: &mut Steps<L>,
 ) -> (DayStatus, D)
     requires begun { D.begun disk ≡ false }
-    ensures ends { Ends (H.told shelf.old) (texts words.now) (D.told disk) (D.told result.1)
+    ensures ends { Ends (H.told shelf.old) (texts words.now) (H.left shelf.new) (D.told disk) (D.told result.1)
         (seen (K.told out.old) steps.old) (seen (K.told out.new) steps.new) result.0 }
     ensures other_words { files_of (texts words.now) ≡ None → result.1 ≡ disk }
     ensures journal { D.begun result.1 ≡ true → IsNamed (D.file_name result.1) (journal_named (texts words.now)) }
@@ -133,7 +133,7 @@ pub fn day<H: Shelf, D: Disk, K: Sink, E: Sink, L: Ledger>(
 
     // How the day ended, what was put, and what the disk holds; and the status once its text was put: a failed put makes a
     // write fault of a refused line and of bad words, and leaves every other status.
-    ensures run { (ended : DayStatus) × Ends (H.told shelf.old) (texts words.now) (D.told disk) (D.told result.1)
+    ensures run { (ended : DayStatus) × Ends (H.told shelf.old) (texts words.now) (H.left shelf.new) (D.told disk) (D.told result.1)
         (seen (K.told out.old) steps.old) (seen (K.told out.new) steps.new) ended
         × IsTold ended result.0 (E.told err.old) (E.told err.new) (E.faults err.old) (E.faults err.new) }
     ensures quiet { result.0 ≡ DayStatus.Done → err.new ≡ err.old }

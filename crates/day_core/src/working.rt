@@ -61,7 +61,7 @@ pub(crate) fn work_file<F: PlainFloor, H: Shelf, D: Disk, K: Sink, L: Ledger>(
     requires unspent { journal.old.log.spent ≡ false }
     requires size { journal.old.log.size ≡ size_of journal.old.lines.items }
     requires holds { (D.told journal.old.log.disk).honest ≡ true → Holds journal.old.lines.items (D.told journal.old.log.disk) }
-    ensures ran { RanFile (H.left shelf.old) journal.old.lines.items (D.told journal.old.log.disk) (D.told journal.new.log.disk)
+    ensures ran { RanFile (H.left shelf.old) (H.left shelf.new) journal.old.lines.items (D.told journal.old.log.disk) (D.told journal.new.log.disk)
         (seen (K.told out.old) steps.old) (seen (K.told out.new) steps.new) result }
     ensures named { D.file_name journal.new.log.disk ≡ D.file_name journal.old.log.disk }
     ensures caused { IsCaused (faults (H.faults shelf.old) (K.faults out.old) (D.faults journal.old.log.disk))
