@@ -1,14 +1,15 @@
 -- The parts of a turn make the turn.
-use Rattle.std.proofs.Common.{◌≡◌, ◌<◌, ◌++◌, [], ℕ, ℤ, List, Option, Some, None, Result, Ok, Err, length, take, refl, sym, subst, append-nil, arith, inl, inr}
+use Rattle.std.proofs.Common.{◌≡◌, ◌<◌, ◌++◌, [], ℕ, ℤ, List, Option, Some, None, Result, Ok, Err, length, take, refl, sym, ◌∙◌, ap, subst, append-nil, arith, inl, inr}
 use Rattle.std.proofs.lemmas.List.{take_all}
 use Rattle.venue_words.specs.declared.config.Config.{Config}
 use Rattle.venue_words.specs.declared.report.Report.{Report}
 use Rattle.venue_words.specs.declared.command.Command.{Command}
 use Rattle.venue_words.specs.Floors.{FloorMark, SymbolView, TurnsRose}
 use Rattle.io_edge.specs.Links.{Told, Tells, WasPut}
+use Rattle.io_edge.specs.Links.Answer.{piece, quiet}
 use Rattle.session_core.specs.declared.state.EndCause.{EndCause}
 use Rattle.session_core.specs.declared.state.EndCause.TheVariants as cause
-use Rattle.session_core.specs.Machine.{IsUp}
+use Rattle.session_core.specs.Machine.{IsUp, given_up}
 use Rattle.session_core.specs.State.{cause_of}
 use Rattle.member_gate.specs.Answering.{Submission}
 use Rattle.member_gate.specs.Desks.{DeskView}
@@ -24,7 +25,6 @@ use Rattle.link_work.proofs.Frames.{put_more, put_none}
 use Rattle.serve_core.specs.Growing.{Grew}
 use Rattle.serve_core.specs.Rounds.{Served, Serves, heard, work_in, sent_to, replies_in, commands_in}
 use Rattle.serve_core.specs.Turning.{GrewBy, TookTurn, EndedTurn, StoppedTurn, RefusedPiece, ReportsWere, PutTurn, PutLast, TurnWas}
-use Rattle.io_edge.specs.Links.Answer.{quiet}
 use Rattle.serve_core.proofs.Grows.{grew_none, grew_same, grew_then, kept_rose}
 
 -- ---- the reports behind the replies
@@ -49,7 +49,7 @@ turn_was config moment replies looked mid desk link link' link'' (Err LinkFault)
   put = put_more (joined replies) (take were.size (joined (sent_to config moment mid looked).turn.replies)) link link' link'' put were.put;
 })
 turn_was config moment replies looked mid desk link link' link'' (Err NoMemory) on put were =
-    subst (λ (t : Option Told). Tells (WasPut (joined replies)) link t) (sym were) put
+    (were.0, subst (λ (t : Option Told). Tells (WasPut (joined replies)) link t) (sym were.1) put)
 turn_was config moment replies looked mid desk link link' link'' (Err Logout) on put were = absurd were
 turn_was config moment replies looked mid desk link link' link'' (Err PeerEnd) on put were = absurd were
 turn_was config moment replies looked mid desk link link' link'' (Err TooLow) on put were = absurd were
@@ -128,8 +128,9 @@ stopped_turn T at mark config feed turn before NoMemory desk floor floor' link l
       parts = sym (append-nil (work_in config turn before.connection).submissions);
       grew = grew;
       full = tt;
+      desk_is = inr (refl, was.0);
       size = length replies;
-      put = subst (λ (bytes : List ℕ). Tells (WasPut bytes) link link') (sym (take_all (length replies) replies (omega arith))) was;
+      put = subst (λ (bytes : List ℕ). Tells (WasPut bytes) link link') (sym (take_all (length replies) replies (omega arith))) was.1;
     }
 stopped_turn T at mark config feed turn before Logout desk floor floor' link link' grew was = ended_turn at config feed turn before Logout desk floor floor' link link' grew was
 stopped_turn T at mark config feed turn before TooLow desk floor floor' link link' grew was = ended_turn at config feed turn before TooLow desk floor floor' link link' grew was
@@ -141,25 +142,28 @@ stopped_turn T at mark config feed turn before Silent desk floor floor' link lin
 stopped_turn T at mark config feed turn before TooLong desk floor floor' link link' grew was = ended_turn at config feed turn before TooLong desk floor floor' link link' grew was
 
 -- a refused piece
-pub cut_turn : {F : Type 0} (at : F → ℕ → SymbolView) (mark : FloorMark) (config : Config) (feed : ℕ) (turn : LinkTurn)
+pub cut_turn : {F : Type 0} (at : F → ℕ → SymbolView) (mark : FloorMark) (config : Config) (feed : ℕ) (moment : ℤ) (bytes : List ℕ)
     (before : Served) (r : DeskRefusal) (desk : DeskView) (floor floor' : F) (link link' : Option Told) → link' ≡ link
-    → RefusedPiece at mark feed turn.moment r (work_in config turn before.connection).submissions floor floor'
-    → StoppedTurn at mark config feed turn before (refused r) desk floor floor' link link'
-cut_turn at mark config feed turn before (refusal.Full symbol found) desk floor floor' link link' same piece = record {
-  taken = piece.taken;
-  left = piece.left;
-  parts = piece.parts;
-  grew = piece.grew;
-  full = piece.full;
+    → desk.member ≡ before.connection.number → desk.cursors ≡ before.cursors
+    → RefusedPiece at mark config feed moment before.connection bytes r desk.session floor floor'
+    → StoppedTurn at mark config feed (record { answer = piece bytes; moment = moment }) before (refused r) desk floor floor' link link'
+cut_turn at mark config feed moment bytes before (refusal.Full symbol found) desk floor floor' link link' same member cursors cut = record {
+  taken = cut.taken;
+  left = cut.left;
+  parts = cut.parts;
+  grew = cut.grew;
+  full = cut.full;
+  desk_is = inl (record { member = member; session = cut.session; cursors = cursors });
   size = 0;
   put = subst (λ (t : Option Told). Tells (WasPut []) link t) (sym same) (put_none link);
 }
-cut_turn at mark config feed turn before refusal.NoMemory desk floor floor' link link' same piece = record {
-  taken = piece.taken;
-  left = piece.left;
-  parts = piece.parts;
-  grew = piece.grew;
+cut_turn at mark config feed moment bytes before refusal.NoMemory desk floor floor' link link' same member cursors cut = record {
+  taken = cut.taken;
+  left = cut.left;
+  parts = cut.parts;
+  grew = cut.grew;
   full = tt;
+  desk_is = inl (record { member = member; session = cut.session; cursors = cursors });
   size = 0;
   put = subst (λ (t : Option Told). Tells (WasPut []) link t) (sym same) (put_none link);
 }
@@ -199,16 +203,21 @@ stopped_behind T at mark config feed turn before end desk floor floor' floor'' l
     (subst (λ (rs : List (List ℕ)). TurnWas {T = T} config turn.moment rs (λ symbol. (at floor'' symbol).reports) (heard config turn before) desk link link' (Err end))
     same was)
 
--- memory was wanted at a tick: nothing was done
+-- memory was wanted at a tick: the session gave up, and nothing else was done
 pub tick_cut : {F : Type 0} (at : F → ℕ → SymbolView) (mark : FloorMark) (config : Config) (feed : ℕ) (moment : ℤ) (before : Served)
-    (desk : DeskView) (floor : F) (link : Option Told)
+    (old desk : DeskView) (floor : F) (link : Option Told) → Serves old before → desk ≡ record old { session = given_up old.session }
     → StoppedTurn at mark config feed (record { answer = quiet; moment = moment }) before NoMemory desk floor floor link link
-tick_cut at mark config feed moment before desk floor link = record {
+tick_cut at mark config feed moment before old desk floor link serves gave = record {
   taken = [];
   left = [];
   parts = refl;
   grew = λ symbol. grew_same feed (at floor symbol) (at floor symbol) refl;
   full = tt;
+  desk_is = inl (record {
+    member = ap (λ (d : DeskView). d.member) gave ∙ serves.desk_is.number;
+    session = (refl, ap (λ (d : DeskView). d.session) gave ∙ ap given_up serves.desk_is.session);
+    cursors = ap (λ (d : DeskView). d.cursors) gave ∙ serves.cursors_are;
+  });
   size = 0;
   put = put_none link;
 }

@@ -47,10 +47,11 @@ fn take_counted<F: Floor, L: Ledger>(
         (at_moment source.entry.moment (work_of_bytes source.entry.config.now source.entry.moment before.connection piece.now).submissions)
         floor.old floor.new) }
     ensures refused { IfErr result (λ refusal. (before : Served) → Serves desk.old before
-        → RefusedPiece F.at (F.mark floor.old) source.entry.feed source.entry.moment refusal
-        (work_of_bytes source.entry.config.now source.entry.moment before.connection piece.now).submissions floor.old floor.new) }
+        → RefusedPiece F.at (F.mark floor.old) source.entry.config.now source.entry.feed source.entry.moment before.connection
+        piece.now refusal desk.new.session floor.old floor.new) }
     ensures mark { F.mark floor.new ≡ F.mark floor.old }
     ensures member { desk.new.member ≡ desk.old.member }
+    ensures cursors { desk.new.cursors ≡ desk.old.cursors }
 {
     let mut steps: Steps<L> = Steps::start(blank);
     match desk.take(

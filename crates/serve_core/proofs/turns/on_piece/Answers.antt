@@ -1,4 +1,4 @@
-use Rattle.std.proofs.Common.{◌≡◌, ℕ, List, Option, Err, sym, subst, rules}
+use Rattle.std.proofs.Common.{◌≡◌, ℕ, List, Option, Err, sym, ◌∙◌, subst, rules}
 use Rattle.venue_words.specs.declared.report.Report.{Report}
 use Rattle.io_edge.specs.Links.{Told}
 use Rattle.io_edge.specs.Links.Answer.{piece}
@@ -47,6 +47,7 @@ returns-clause-stopped g c before x =
     subst (λ (end : LinkEnd). StoppedTurn g.F.Floor.at (g.F.Floor.mark c.args.floor.now) config c.args.source.feed turn before end
     c.take_counted-taken.new.desk c.args.floor.now c.take_counted-taken.new.floor (g.K.Link.told c.args.link.now) (g.K.Link.told c.ring_for.new.link))
     (sym e)
-    (cut_turn g.F.Floor.at (g.F.Floor.mark c.args.floor.now) config c.args.source.feed turn before c.in-Err.refusal
-    c.take_counted-taken.new.desk c.args.floor.now c.take_counted-taken.new.floor (g.K.Link.told c.args.link.now)
-    (g.K.Link.told c.ring_for.new.link) c.ring_for.ensures.told (c.in-Err.ensures.refused before x))
+    (cut_turn g.F.Floor.at (g.F.Floor.mark c.args.floor.now) config c.args.source.feed c.args.source.moment c.args.piece.now before
+    c.in-Err.refusal c.take_counted-taken.new.desk c.args.floor.now c.take_counted-taken.new.floor (g.K.Link.told c.args.link.now)
+    (g.K.Link.told c.ring_for.new.link) c.ring_for.ensures.told (c.in-Err.ensures.member ∙ x.desk_is.number)
+    (c.in-Err.ensures.cursors ∙ x.cursors_are) (c.in-Err.ensures.refused before x))

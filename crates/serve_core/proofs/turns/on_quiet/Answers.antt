@@ -59,4 +59,4 @@ returns-in-Ok-clause-stopped g c before x =
 pub returns-clause-stopped : goal.returns-clause-stopped
 returns-clause-stopped g c before x =
     tick_cut g.F.Floor.at (g.F.Floor.mark c.args.floor.now) c.args.source.config.now c.args.source.feed c.args.source.moment before
-    c.tick.new.self c.args.floor.now (g.K.Link.told c.args.link.now)
+    c.args.desk.now c.tick.new.self c.args.floor.now (g.K.Link.told c.args.link.now) x c.in-Err.ensures.err

@@ -1,11 +1,12 @@
-use Rattle.std.proofs.Common.{◌≡◌, ℕ, ℤ, List, take, ◌∙◌, ap, subst, w64, to_z, of_z, rules}
+use Rattle.std.proofs.Common.{◌≡◌, ℕ, ℤ, List, take, refl, sym, ◌∙◌, ap, subst, w64, to_z, of_z, rules}
 use Rattle.venue_words.specs.declared.report.Report.{Report}
 use Rattle.io_edge.specs.Links.{Tells, WasPut}
 use Rattle.session_core.specs.Machine.{Outcome}
 use Rattle.session_core.specs.Runs.{send_if_up}
+use Rattle.member_gate.specs.Desks.{DeskView}
 use Rattle.member_gate.specs.Reporting.{messages_past}
 use Rattle.link_work.specs.Turns.{joined}
-use Rattle.serve_core.specs.Rounds.{sent_to}
+use Rattle.serve_core.specs.Rounds.{Serves, sent_to}
 use Rattle.serve_core.proofs.Reports.{Pulled, behind, same_sent, is_sent, serves_on}
 use Rattle.serve_core.proofs.turns.put_reports.Goals as goal
 
@@ -34,6 +35,10 @@ returns-in-Ok-put_all-clause-reports g c before x =
           subst (λ (f : List (List ℕ)). Tells (WasPut (joined f)) (g.K.Link.told c.args.link.now) (g.K.Link.told c.put_all.new.link))
           frames c.in-Ok-put_all.ensures.bytes;
     }
+
+pub returns-in-Err-clause-reports : goal.returns-in-Err-clause-reports
+returns-in-Err-clause-reports g c before x =
+    (subst (λ (d : DeskView). Serves d before) (sym c.in-Err.ensures.pulled.err) x, refl)
 
 pub returns-clause-reports : goal.returns-clause-reports
 returns-clause-reports g c before x =

@@ -5,9 +5,9 @@ use Rattle.member_gate.specs.Answering.{Work}
 use Rattle.member_gate.specs.Desks as desks
 use Rattle.member_gate.specs.Submitting.{Stopped}
 use Rattle.line_work.specs.LineWork.{work_of_bytes}
-use Rattle.line_work.proofs.DeskWork.{piece_same, piece_took, desk_fed, piece_stopped}
+use Rattle.line_work.proofs.DeskWork.{piece_same, piece_took, desk_fed}
 use Rattle.serve_core.proofs.Grows.{grew_all}
-use Rattle.serve_core.proofs.Pieces.{part_refused}
+use Rattle.serve_core.proofs.Pieces.{piece_refused}
 use Rattle.serve_core.proofs.turns.take_counted.Goals as goal
 
 pub returns-in-Ok-clause-serves : goal.returns-in-Ok-clause-serves
@@ -43,12 +43,10 @@ returns-in-Ok-clause-grew g c before x =
 pub returns-clause-refused : goal.returns-clause-refused
 returns-clause-refused g c before x =
     let e : to_z w64 (of_z w64 c.args.source.moment) ≡ c.args.source.moment = search rules in
-    part_refused g.F.Floor.at g.F.Floor.step_limit (g.F.Floor.mark c.args.floor.now) c.args.source.feed c.args.source.moment
-    c.in-Err.refusal (work_of_bytes c.args.source.config.now c.args.source.moment before.connection c.args.piece.now).submissions
-    (c.args.floor.now, c.start-steps.result) (c.take.new.floor, c.take.new.steps)
-    (piece_stopped g.F.Floor.at g.F.Floor.step_limit (g.F.Floor.mark c.args.floor.now) c.args.source.config.now c.args.source.feed
-    c.args.source.moment c.args.desk.now c.take.new.self.session before.connection c.args.piece.now c.in-Err.refusal
-    c.take.new.self.submitted (c.args.floor.now, c.start-steps.result) (c.take.new.floor, c.take.new.steps) x.desk_is
+    piece_refused g.F.Floor.at g.F.Floor.step_limit (g.F.Floor.mark c.args.floor.now) c.args.source.config.now c.args.source.feed
+    c.args.source.moment c.in-Err.refusal c.take.new.self.session c.take.new.self.submitted (c.args.floor.now, c.start-steps.result)
+    (c.take.new.floor, c.take.new.steps) c.args.desk.now before.connection c.args.piece.now x.desk_is
+    (λ over. let is = (c.in-Err.ensures.over over).0 in (cc))
     (subst (λ (m : ℤ). Stopped g.F.Floor.at g.F.Floor.step_limit (g.F.Floor.mark c.args.floor.now) c.args.source.config.now
     c.args.desk.now.member c.args.source.feed m c.args.desk.now.session (reading_of (c.args.desk.now.unread ++ c.args.piece.now)).frames
-    c.in-Err.refusal c.take.new.self.session c.take.new.self.submitted (c.args.floor.now, c.start-steps.result) (c.take.new.floor, c.take.new.steps)) e c.in-Err.ensures.stopped))
+    c.in-Err.refusal c.take.new.self.session c.take.new.self.submitted (c.args.floor.now, c.start-steps.result) (c.take.new.floor, c.take.new.steps)) e c.in-Err.ensures.stopped)
