@@ -1,11 +1,12 @@
 -- A drop desk as it is seen, and what each input makes of it.
-use Rattle.std.specs.Prelude.{◌<◌, ℕ, ℤ, List, [], ◌∷◌, ◌++◌, length}
+use Rattle.std.specs.Prelude.{◌≡◌, ◌<◌, ℕ, ℤ, List, [], ◌∷◌, ◌++◌, length}
 use Rattle.std.specs.List.{All}
 use Rattle.fix_frames.specs.Reading.{reading_of}
 use Rattle.venue_words.specs.declared.config.Config.{Config}
 use Rattle.session_core.specs.Machine.{Machine, fresh, connected}
 use Rattle.session_stream.specs.Hearing.{Reads}
-use Rattle.session_stream.specs.Work.{Work, work_of_reading}
+use Rattle.session_stream.specs.Work.{Work, work_of_frames, work_of_reading}
+use Rattle.member_gate.specs.Working.{GaveUp}
 use Rattle.drop_copy.specs.Answering.{refuses}
 
 -- the session, the bytes of its stream that are unread, the listed members, and how many reports of each symbol were gone
@@ -41,3 +42,10 @@ work_of_piece moment desk piece =
 -- all frames of these bytes were taken, and the stream goes on from the unread ones
 abbrev pub AreUnread : List ℕ → List ℕ → Type 0
 AreUnread bytes unread = Reads bytes (reading_of bytes).frames unread
+
+-- some of these frames were worked, and the session gave up over the next one, or behind all of them
+pub record GaveUpOver (moment : ℤ) (session : Machine) (frames : List (List ℕ)) (last : Machine) : Type 0 where
+  pub worked : List (List ℕ)
+  pub left : List (List ℕ)
+  pub frames_are : frames ≡ worked ++ left
+  pub gave_up : GaveUp moment (work_of_frames (refuses moment) moment session worked).session left last

@@ -6,12 +6,13 @@ use Rattle.venue_words.specs.declared.report.Report.{Report}
 use Rattle.io_edge.specs.Links.{Answer}
 use Rattle.io_edge.specs.Links.Answer.{piece, quiet, ended}
 use Rattle.session_core.specs.declared.message.Message.{Message}
-use Rattle.session_core.specs.Machine.{Outcome, IsUp, IsOver, on_clock}
+use Rattle.fix_frames.specs.Reading.{reading_of}
+use Rattle.session_core.specs.Machine.{Machine, Outcome, IsUp, IsOver, given_up, on_clock}
 use Rattle.session_core.specs.Runs.{send_if_up}
 use Rattle.session_stream.specs.Work.{Work, idle, turned}
 use Rattle.link_work.specs.Turns.{LinkTurn, joined}
 use Rattle.drop_copy.specs.Copies.{copies_at, copies_past}
-use Rattle.drop_copy.specs.Desks.{DropView, AreUnread, work_of_piece}
+use Rattle.drop_copy.specs.Desks.{DropView, AreUnread, GaveUpOver, work_of_piece}
 
 -- ---- the input of a turn
 
@@ -36,6 +37,15 @@ pub record HeardInput (turn : LinkTurn) (before after : DropView) : Type 0 where
   pub unread : IsOver after.session ⊎ StreamGoesOn turn.answer before.unread after.unread
   pub members : after.members ≡ before.members
   pub cursors : after.cursors ≡ before.cursors
+
+-- the session gave up over it, for want of memory: over a frame of the piece, or over the clock
+abbrev pub GaveUpAt : ℤ → DropView → Answer → Machine → Type 0
+GaveUpAt moment desk (piece bytes) last = GaveUpOver moment desk.session (reading_of (desk.unread ++ bytes)).frames last
+GaveUpAt moment desk quiet last = last ≡ given_up desk.session
+GaveUpAt moment desk ended last = ⊥
+
+abbrev pub GaveUpIn : LinkTurn → DropView → Machine → Type 0
+GaveUpIn turn desk last = GaveUpAt turn.moment desk turn.answer last
 
 -- ---- the copies behind the input
 

@@ -18,7 +18,7 @@ use Rattle.link_work.specs.Turns.{LinkTurn, TurnsWere}
 use Rattle.drop_copy.specs.Copies.{copies, cursor_of}
 use Rattle.drop_copy.specs.Desks.{DropView}
 use Rattle.drop_copy.specs.Looks.{AllWentOn, WentOn}
-use Rattle.drop_copy.specs.Rounds.{Round, IsRound, AreRounds, HeardInput, replies_in, copies_in, put_in, put_by, turns_of, copied_by}
+use Rattle.drop_copy.specs.Rounds.{Round, IsRound, AreRounds, GaveUpIn, HeardInput, work_in, replies_in, copies_in, put_in, put_by, turns_of, copied_by}
 
 -- what a floor shows of each symbol
 abbrev pub reports_at : {F : Type 0} → (F → ℕ → SymbolView) → F → ℕ → List Report
@@ -81,9 +81,12 @@ pub record FailedCopies {F : Type 0} (at : F → ℕ → SymbolView) (made : ℕ
   pub put : Tells (WasPut (replies_in turn before
       ++ take size (copies_in config turn.moment (reports_at at floor') heard after.cursors))) link link'
 
--- memory was wanted: a prefix of the replies was put, and no copy
+-- memory was wanted: a prefix of the replies was put, and no copy. The session gave up over the input; or that was worked whole, and
+-- only its copies were not framed
 pub record CutTurn {F : Type 0} (at : F → ℕ → SymbolView) (turn : LinkTurn) (before : DropView) (end : LinkEnd) (after : DropView) (floor floor' : F) (link link' : Option Told) : Type 0 where
   pub end_is : end ≡ NoMemory
+  pub session : GaveUpIn turn before after.session ⊎ (after.session ≡ (work_in turn before).session)
+  pub members : after.members ≡ before.members
   pub cursors : after.cursors ≡ before.cursors
   pub waited : AllWaited at floor floor'
   pub size : ℕ

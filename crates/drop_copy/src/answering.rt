@@ -1,10 +1,12 @@
 //! What the frames of a drop session's stream make of it.
-ghost use Rattle.std.specs.Prelude.{◌≡◌, ◌≤◌, ◌⊎◌, ◌++◌, ◌∷◌, [], length, IfOk, OnOk, OnErr, OnSome};
+ghost use Rattle.std.specs.Prelude.{◌≡◌, ◌≤◌, ◌<◌, ◌⊎◌, ◌++◌, ◌∷◌, [], length, IfOk, OnOk, OnErr, OnSome};
+ghost use Rattle.venue_words.specs.declared.limits.TheConstants.{MAX_FRAME_BYTES};
 ghost use Rattle.fix_frames.specs.Reading.{reading_of};
-ghost use Rattle.session_core.specs.Machine.{IsUp, IsOver};
+ghost use Rattle.session_core.specs.Machine.{IsUp, IsOver, given_up};
 ghost use Rattle.session_stream.specs.Work.{answered, work_of_frame, work_at_limit, work_of_reading};
 ghost use Rattle.drop_copy.specs.Answering.{refuses};
-ghost use Rattle.drop_copy.specs.Desks.{AreUnread};
+ghost use Rattle.member_gate.specs.Working.{GaveUp};
+ghost use Rattle.drop_copy.specs.Desks.{AreUnread, GaveUpOver};
 
 use fix_fields::Frame;
 use fix_frames::{Framer, Next};
@@ -33,7 +35,8 @@ fn refuse(
     session.send(MessageType::BusinessReject, &body, moment)
 }
 
-/// Adds what a turn sends, and the answer to the message that it hands out, if any. After a refusal some of them may be added.
+/// Adds what a turn sends, and the answer to the message that it hands out, if any. After a refusal some of them may be added, and
+/// the session is as it was.
 fn work_turn(
     alloc: Global,
     session: &mut Session,
@@ -45,6 +48,7 @@ fn work_turn(
     ensures session { OnOk result (session.new ≡ (answered (refuses moment) session.old turn.entry.request).session) }
     ensures replies { OnOk result (replies.new.items
         ≡ replies.old.items ++ (turn.entry.replies ++ (answered (refuses moment) session.old turn.entry.request).replies)) }
+    ensures err { OnErr result (session.new ≡ session.old) }
 {
     let mut own = turn.replies.into_vec();
     replies.append(&mut own)?;
@@ -71,6 +75,7 @@ fn work_frame(
     ensures session { OnOk result (session.new ≡ (work_of_frame (refuses moment) moment session.old frame.entry.bytes.now).session) }
     ensures replies { OnOk result (replies.new.items
         ≡ replies.old.items ++ (work_of_frame (refuses moment) moment session.old frame.entry.bytes.now).replies) }
+    ensures gave_up { OnErr result (GaveUp moment session.old (frame.entry.bytes.now ∷ []) (given_up session.new)) }
 {
     let turn = session.take(frame, moment)?;
     work_turn(alloc, session, turn, moment, replies)
@@ -84,6 +89,7 @@ fn end_too_long(
 ) -> Result<(), NoMemory>
     ensures session { OnOk result (session.new ≡ (work_at_limit moment session.old).session) }
     ensures replies { OnOk result (replies.new.items ≡ replies.old.items ++ (work_at_limit moment session.old).replies) }
+    ensures gave_up { OnErr result (GaveUp moment session.old [] (given_up session.new)) }
 {
     let turn = session.too_long(moment)?;
     let mut own = turn.replies.into_vec();
@@ -104,6 +110,8 @@ pub fn work_frames(
     ensures replies { OnOk result (replies.new.items ≡ replies.old.items
         ++ (work_of_reading (refuses moment) moment session.old (reading_of framer.old.kept)).replies) }
     ensures unread { OnOk result (IsOver session.new ⊎ AreUnread framer.old.kept framer.new.kept) }
+    ensures few { OnOk result (IsOver session.new ⊎ (length framer.new.kept < MAX_FRAME_BYTES)) }
+    ensures gave_up { OnErr result (GaveUpOver moment session.old (reading_of framer.old.kept).frames (given_up session.new)) }
 {
     'frames: loop {
         match framer.next() {

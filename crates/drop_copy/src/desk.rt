@@ -2,12 +2,14 @@
 ghost use Rattle.std.specs.Prelude.{◌≡◌, ◌≢◌, ◌≤◌, ◌<◌, ◌++◌, ◌⊎◌, ℕ, [], None, length, IfOk, OnOk, OnErr, IsOk};
 ghost use Rattle.venue_words.specs.Conditions.{IsConfig};
 ghost use Rattle.venue_words.specs.Floors.{IsSetUpFor, TurnsRose};
+ghost use Rattle.venue_words.specs.declared.limits.TheConstants.{MAX_FRAME_BYTES};
+ghost use Rattle.fix_frames.specs.Reading.{reading_of};
 ghost use Rattle.session_core.specs.Machine.{IsUp, IsOver, sending, on_clock, given_up};
 ghost use Rattle.session_core.specs.Runs.{send_if_up};
 ghost use Rattle.session_core.specs.State.{cause_of};
 ghost use Rattle.member_gate.specs.Submitting.{Waited};
 ghost use Rattle.drop_copy.specs.Copies.{copies_past};
-ghost use Rattle.drop_copy.specs.Desks.{AreConfigured, AreRising, AreUnread, work_of_piece};
+ghost use Rattle.drop_copy.specs.Desks.{AreConfigured, AreRising, AreUnread, GaveUpOver, work_of_piece};
 ghost use Rattle.drop_copy.specs.Looks.{AllWentOn};
 
 use crate::answering::work_frames;
@@ -111,6 +113,9 @@ impl DropDesk {
             ≡ replies.old.items ++ (work_of_piece moment self.old piece.now).replies) }
         ensures unread { OnOk result (IsOver self.new.session
             ⊎ AreUnread (self.old.unread ++ piece.now) self.new.unread) }
+        ensures few { OnOk result (IsOver self.new.session ⊎ (length self.new.unread < MAX_FRAME_BYTES)) }
+        ensures gave_up { OnErr result (GaveUpOver moment self.old.session
+            (reading_of (self.old.unread ++ piece.now)).frames (given_up self.new.session)) }
         ensures members { self.new.members ≡ self.old.members }
         ensures cursors { self.new.cursors ≡ self.old.cursors }
     {
@@ -135,12 +140,17 @@ impl DropDesk {
             ≡ sending self.new.session (work_of_piece moment self.old piece.now).replies) }
         ensures session { OnOk result (self.new.session ≡ (work_of_piece moment self.old piece.now).session) }
 
-        // Unless the connection has ended, the stream goes on from the bytes that are unread then.
+        // Unless the connection has ended, the stream goes on from the bytes that are unread then. These are fewer than the
+        // greatest frame has.
         ensures unread { OnOk result (IsOver self.new.session
             ⊎ AreUnread (self.old.unread ++ piece.now) self.new.unread) }
+        ensures few { OnOk result (IsOver self.new.session ⊎ (length self.new.unread < MAX_FRAME_BYTES)) }
 
-        // A connection that had ended takes nothing, and one for which memory was wanted has ended without a cause.
+        // A connection that had ended takes nothing, and one for which memory was wanted has ended without a cause: the session
+        // is that of the piece's frames before, given up.
         ensures rests { IsOver self.old.session → IsOk result × (self.new ≡ self.old) }
+        ensures gave_up { OnErr result (GaveUpOver moment self.old.session
+            (reading_of (self.old.unread ++ piece.now)).frames self.new.session) }
         ensures ended { OnErr result (IsOver self.new.session) }
         ensures no_cause { OnErr result (cause_of self.new.session.state.phase ≡ None) }
 

@@ -8,7 +8,7 @@ ghost use Rattle.io_edge.specs.declared.link.Pulled.TheVariants as pulled;
 ghost use Rattle.session_core.specs.State.{cause_of};
 ghost use Rattle.link_work.specs.Turns.{turn_of};
 ghost use Rattle.drop_copy.specs.Desks.{AreConfigured};
-ghost use Rattle.drop_copy.specs.Rounds.{HeardInput, work_in};
+ghost use Rattle.drop_copy.specs.Rounds.{GaveUpIn, HeardInput, work_in};
 ghost use Rattle.drop_copy.specs.Sessions.{IsDropEnd, StoppedTurn, TookTurn};
 
 use crate::desk::DropDesk;
@@ -31,7 +31,7 @@ pub fn hear_input(
     ensures cursors { desk.new.cursors ≡ desk.old.cursors }
     ensures ended { asked.pulled ≡ pulled.End → result ≡ Err LinkEnd.PeerEnd }
     ensures failed { IfErr result (λ end. ((end ≡ LinkEnd.PeerEnd) × (asked.pulled ≡ pulled.End) × (desk.new ≡ desk.old))
-        ⊎ (end ≡ LinkEnd.NoMemory)) }
+        ⊎ ((end ≡ LinkEnd.NoMemory) × GaveUpIn (turn_of asked buffer.now) desk.old desk.new.session)) }
 {
     match asked.pulled {
         Pulled::Bytes(count) => match desk.take(asked.moment, &buffer[..count]) {

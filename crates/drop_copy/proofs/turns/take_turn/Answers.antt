@@ -18,6 +18,8 @@ returns-in-Err-pull-clause-stopped g c =
     (c.as_slice.ensures ∙ c.in-Ok.ensures.replies) c.in-Ok-put_all.ensures.bytes in
     inr (inr (inr (inr (record {
       end_is = refl;
+      session = inr (ap (λ (d : DropView). d.session) c.in-Err-pull.ensures.err ∙ c.in-Ok.ensures.heard.session);
+      members = ap (λ (d : DropView). d.members) c.in-Err-pull.ensures.err ∙ c.hear_input.ensures.members;
       cursors = ap (λ (d : DropView). d.cursors) c.in-Err-pull.ensures.err ∙ c.hear_input.ensures.cursors;
       waited = c.pull.ensures.waited;
       size = length replies;
