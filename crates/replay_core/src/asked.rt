@@ -30,7 +30,8 @@ impl Model for Asked {
 impl Asked {
     /// At none of so many.
     pub fn new(alloc: Global, symbols: usize) -> Result<Asked, NoMemory>
-        ensures { IfOk result (λ asked. length asked ≡ symbols) }
+        ensures count { IfOk result (λ asked. length asked ≡ symbols) }
+        ensures none { IfOk result AsksNone }
     {
         Ok(Asked {
             symbols: vec![in alloc; false; symbols]?,

@@ -21,7 +21,7 @@ loop-preserved c = record {
   all = ap (λ (rows : List (List Bool)). length rows) c.in_ok-push.ensures.items
       ∙ length-append c.loop.asked.items (c.in_ok-new.field-0 ∷ []) ∙ ap (λ (k : ℕ). k + 1) c.loop.invariant.all;
   rows = subst (λ (rows : List (List Bool)). AreRows (c.loop.counter + 1) c.args.symbols rows) (sym c.in_ok-push.ensures.items)
-      (rows_more c.loop.asked.items c.in_ok-new.field-0 c.loop.counter c.args.symbols c.loop.invariant.all c.in_ok-new.ensures
+      (rows_more c.loop.asked.items c.in_ok-new.field-0 c.loop.counter c.args.symbols c.loop.invariant.all c.in_ok-new.ensures.count
       c.loop.invariant.rows);
 }
 
