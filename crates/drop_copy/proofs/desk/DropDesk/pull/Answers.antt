@@ -1,5 +1,5 @@
 -- A session that is up is sent what was looked up.
-use Rattle.std.proofs.Common.{◌≡◌, ◌∙◌, ℕ, List, sym, ap, refl, subst, w64, to_z, of_z, length, rules}
+use Rattle.std.proofs.Common.{◌≡◌, ℕ, List, sym, ap, refl, subst, w64, to_z, of_z, length, rules}
 use Rattle.venue_words.specs.declared.config.Config.{Config}
 use Rattle.venue_words.specs.declared.report.Report.{Report}
 use Rattle.session_core.specs.declared.message.Message.{Message}
