@@ -1,12 +1,31 @@
 -- What the words of a run ask for.
-use Rattle.std.specs.Prelude.{◌≡◌, ◌<◌, ◌++◌, ◌∷◌, ℕ, List, Option, Some, None, codes, length, option_map, string_bytes}
-use Rattle.program_words.specs.Words.{texts}
+use Rattle.std.specs.Prelude.{◌≡◌, ◌<◌, ◌⊎◌, ◌++◌, ◌∷◌, ℕ, nat_le, List, Option, Some, None, Result, Ok, Err, ⊤, if◌then◌else◌, codes, length, take, option_and_then, option_map, string_bytes}
+use Rattle.line_reader.specs.ConfigFile.{Answer}
+use Rattle.program_words.specs.Words.{remaining, texts}
+use Rattle.script_text.specs.declared.fault.LineFault.TheVariants as fault
+use Rattle.venue_words.specs.Conditions.{IsConfig}
 use Rattle.venue_words.specs.declared.config.Config.{Config}
 use Rattle.drop_copy.specs.Desks.{DropView, fresh_drop}
 use Rattle.drop_copy.specs.Plans.{members_of}
 use Rattle.drop_copy.specs.declared.plan.DropPlan.{DropPlan}
+use Rattle.serve_core.specs.Plans.{Plan, form_of}
+use Rattle.serve_core.specs.declared.setup.SetupFault.{SetupFault}
+use Rattle.serve_core.specs.declared.setup.SetupFault.TheVariants.{BadWords, BadLine, LimitLine, ReadFault, NoMemory}
 use Rattle.venue_server.specs.declared.asking.Copies.{Copies}
+use Rattle.venue_server.specs.declared.asking.Setup.{Setup}
 use Rattle.venue_server.specs.declared.asking.Split.{Split}
+
+-- ---- the venue
+
+-- the words that ask for the venue: the first four where there are at least seven, with a drop session behind them, and else all
+abbrev pub venue_part : List (List ℕ) → List (List ℕ)
+venue_part words = if nat_le 7 (length words) then take 4 words else words
+
+-- the plan that words ask for, where those of them that remain have a form
+unfoldable pub asked_plan : List (List ℕ) → Option Plan
+asked_plan words = option_and_then (λ words. form_of (venue_part words)) (remaining words)
+
+-- ---- the drop session
 
 -- the words of a drop session's plan: its address, its name, and the names of its listed members
 abbrev pub plan_words : DropPlan → List (List ℕ)
@@ -30,6 +49,23 @@ Splits (Some words) None = length words < 7
 abbrev pub IsDeskOf : Config → List ℕ → List (List ℕ) → DropView → Type 0
 IsDeskOf config name members desk = Some desk ≡ option_map (fresh_drop name) (members_of config.members name members)
 
+-- no session of this name may list the members of these names
+abbrev pub HasNoDesk : Config → List ℕ → List (List ℕ) → Type 0
+HasNoDesk config name members = members_of config.members name members ≡ None
+
+-- the drop session of a plan, where there is a plan
+abbrev pub ArePlanned : Config → Option DropPlan → Option Copies → Type 0
+ArePlanned config None None = ⊤
+ArePlanned config None (Some copies) = ⊥
+ArePlanned config (Some plan) None = ⊥
+ArePlanned config (Some plan) (Some copies) =
+    (copies.address ≡ plan.address) × IsDeskOf config (string_bytes plan.name) (texts plan.members.items) copies.desk
+
+-- there is a plan, and it is not lawful for the config
+abbrev pub IsUnlawful : Config → Option DropPlan → Type 0
+IsUnlawful config None = ⊥
+IsUnlawful config (Some plan) = HasNoDesk config (string_bytes plan.name) (texts plan.members.items)
+
 -- the fifth of the words is the session's address, the sixth is its name, and all behind that are its listed members
 pub record AsksForCopies (config : Config) (words : List (List ℕ)) (copies : Copies) : Type 0 where
   pub venue : List (List ℕ)
@@ -45,3 +81,39 @@ abbrev pub AsksFor : Config → Option (List (List ℕ)) → Option Copies → T
 AsksFor config None copies = ⊥
 AsksFor config (Some words) (Some copies) = AsksForCopies config words copies
 AsksFor config (Some words) None = length words < 7
+
+-- words ask for a session as above, and it may not list its members
+pub record AsksForNoDesk (config : Config) (words : List (List ℕ)) : Type 0 where
+  pub venue : List (List ℕ)
+  pub address : List ℕ
+  pub name : List ℕ
+  pub members : List (List ℕ)
+  pub four : length venue ≡ 4
+  pub all : words ≡ venue ++ (address ∷ (name ∷ members))
+  pub somebody : 0 < length members
+  pub nobody : HasNoDesk config name members
+
+-- words that remain ask for a drop session that is not lawful for the config
+abbrev pub AsksUnlawfully : Config → Option (List (List ℕ)) → Type 0
+AsksUnlawfully config None = ⊥
+AsksUnlawfully config (Some words) = AsksForNoDesk config words
+
+-- ---- refusals
+
+-- Words are bad words: they ask for no venue, or for a drop session that is not lawful for a config.
+abbrev pub AreBadWords : List (List ℕ) → Type 0
+AreBadWords words = (asked_plan words ≡ None) ⊎ ((config : Config) × IsConfig config × AsksUnlawfully config (remaining words))
+
+-- it is refused for this, or for want of memory
+abbrev pub IsRefusedAs : SetupFault → Result Setup SetupFault → Type 0
+IsRefusedAs fault result = (result ≡ Err fault) ⊎ (result ≡ Err NoMemory)
+
+-- What came of it is what the config's file says, where it is none of the outside: the file's config, or its first line that is
+-- refused. Words are bad only where the file's config makes what they ask for unlawful.
+abbrev pub MeetsFile : (Config → Type 0) → Answer → Result Setup SetupFault → Type 0
+MeetsFile Unlawful meant (Ok setup) = (bytes : ℕ) × (meant ≡ Ok (setup.config, bytes))
+MeetsFile Unlawful meant (Err BadWords) = (config : Config) × (bytes : ℕ) × (meant ≡ Ok (config, bytes)) × Unlawful config
+MeetsFile Unlawful meant (Err (BadLine line cause)) = meant ≡ Err (fault.Bad line cause)
+MeetsFile Unlawful meant (Err (LimitLine line which)) = meant ≡ Err (fault.Limit line which)
+MeetsFile Unlawful meant (Err ReadFault) = ⊤
+MeetsFile Unlawful meant (Err NoMemory) = ⊤

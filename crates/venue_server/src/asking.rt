@@ -1,11 +1,15 @@
 //! What a run begins with: the venue and the drop session that its words ask for.
-ghost use Rattle.std.specs.Prelude.{◌≡◌, ◌≢◌, ◌≤◌, ◌++◌, ◌∷◌, [], Err, Some, None, IfOk, IfSome, OnOk, codes, length, map, option_map, string_bytes};
+ghost use Rattle.std.specs.Prelude.{◌≡◌, ◌≢◌, ◌≤◌, ◌⊎◌, ◌++◌, ◌∷◌, [], Err, Some, None, IsNone, IsTrue, IfErr, IfOk, IfSome, OnOk, codes, length, map, string_bytes};
+ghost use Rattle.io_edge.specs.Files.{HasFile, file_named};
+ghost use Rattle.line_reader.specs.ConfigFile.{config_file};
 ghost use Rattle.program_words.specs.Words.{remaining, texts};
 ghost use Rattle.venue_words.specs.Causes.{Rose};
 ghost use Rattle.venue_words.specs.Conditions.{IsConfig};
+ghost use Rattle.venue_words.specs.declared.config.Config.{Config};
+ghost use Rattle.venue_words.specs.declared.limits.TheConstants.{MAX_CONFIG_BYTES};
+ghost use Rattle.serve_core.specs.Plans.{Plan, plan_in, plan_of};
 ghost use Rattle.drop_copy.specs.Desks.{AreConfigured, AreRising, fresh_drop};
-ghost use Rattle.drop_copy.specs.Plans.{members_of};
-ghost use Rattle.venue_server.specs.Asking.{AsksFor, IsDeskOf, IsSplit, Splits, plan_words};
+ghost use Rattle.venue_server.specs.Asking.{ArePlanned, AreBadWords, AsksFor, AsksUnlawfully, HasNoDesk, IsDeskOf, IsRefusedAs, IsSplit, IsUnlawful, MeetsFile, Splits, asked_plan, plan_words};
 
 use drop_copy::{DropDesk, DropPlan, drop_members};
 use io_edge::Shelf;
@@ -90,7 +94,8 @@ fn split_read(alloc: Global, words: &[&str]) -> Result<Split, NoMemory>
 
 /// The words of a run with a drop session, and nothing where fewer than seven remain.
 fn split_words(alloc: Global, words: &[String]) -> Result<Option<Split>, WordFault>
-    ensures { IfOk result (Splits (remaining (texts words.now))) }
+    ensures split { IfOk result (Splits (remaining (texts words.now))) }
+    ensures bad_words { result ≡ Err WordFault.BadWords → remaining (texts words.now) ≡ None }
 {
     let read = match read_words(alloc, words) {
         Ok(read) => read,
@@ -126,6 +131,10 @@ pub fn copies_of(alloc: Global, plan: DropPlan, config: &Config) -> Result<Copie
     ensures address { IfOk result (λ copies. copies.address ≡ plan.address) }
     ensures desk { IfOk result (λ copies. IsDeskOf config.now (string_bytes plan.name) (texts plan.members.items) copies.desk) }
     ensures members { IfOk result (λ copies. AreConfigured copies.desk.members config.now) }
+
+    // It is refused for want of memory, or because the name may not list these members.
+    ensures refused { IfErr result (λ fault. (fault ≡ SetupFault.NoMemory) ⊎ ((fault ≡ SetupFault.BadWords)
+        × HasNoDesk config.now (string_bytes plan.name) (texts plan.members.items))) }
     ensures read { result ≢ Err SetupFault.ReadFault }
 {
     let members = match drop_members(alloc, &plan, config) {
@@ -142,26 +151,61 @@ pub fn copies_of(alloc: Global, plan: DropPlan, config: &Config) -> Result<Copie
     }
 }
 
-/// The venue that the words of a run with a drop session ask for, and that session.
-fn set_up_both<H: Shelf>(alloc: Global, split: Split, shelf: &mut H) -> Result<Setup, SetupFault>
+/// The same, where there is a plan.
+fn copies_if_planned(
+    alloc: Global,
+    plan: Option<DropPlan>,
+    config: &Config,
+) -> Result<Option<Copies>, SetupFault>
+    requires { IsConfig config.now }
+    ensures copies { IfOk result (ArePlanned config.now plan) }
+    ensures members { IfOk result (λ copies. IfSome copies (λ copies. AreConfigured copies.desk.members config.now)) }
+    ensures refused { IfErr result (λ fault. (fault ≡ SetupFault.NoMemory)
+        ⊎ ((fault ≡ SetupFault.BadWords) × IsUnlawful config.now plan)) }
+{
+    match plan {
+        Some(plan) => match copies_of(alloc, plan, config) {
+            Ok(copies) => Ok(Some(copies)),
+            Err(fault) => Err(fault),
+        },
+        None => Ok(None),
+    }
+}
+
+/// The venue that these words ask for, and the drop session of the plan, if there is one.
+fn set_up_with<H: Shelf>(
+    alloc: Global,
+    words: &[String],
+    session: Option<DropPlan>,
+    shelf: &mut H,
+) -> Result<Setup, SetupFault>
+    ensures plan { IfOk result (λ setup. plan_of (texts words.now) ≡ Some (plan_in setup.plan)) }
+    ensures no_plan { plan_of (texts words.now) ≡ None → IsRefusedAs SetupFault.BadWords result }
+    ensures bad_words { result ≡ Err SetupFault.BadWords → (plan_of (texts words.now) ≡ None)
+        ⊎ ((config : Config) × IsConfig config × IsUnlawful config session) }
+    ensures meant { (plan : Plan) → plan_of (texts words.now) ≡ Some plan → IfSome (H.told shelf.old) (λ files.
+        IfSome (file_named files plan.config) (λ text.
+        MeetsFile (λ config. IsUnlawful config session) (config_file MAX_CONFIG_BYTES text) result)) }
+    ensures missing { (plan : Plan) → plan_of (texts words.now) ≡ Some plan → IfSome (H.told shelf.old) (λ files.
+        IsNone (file_named files plan.config) → IsRefusedAs SetupFault.ReadFault result) }
+    ensures sure { IsTrue (H.sure shelf.old) → (plan : Plan) → plan_of (texts words.now) ≡ Some plan →
+        HasFile (H.told shelf.old) plan.config → result ≢ Err SetupFault.ReadFault }
     ensures config { IfOk result (λ setup. IsConfig setup.config) }
     ensures connections { IfOk result (λ setup. setup.plan.connections ≤ 64) }
-    ensures copies { IfOk result (λ setup. IfSome setup.copies (λ copies. (copies.address ≡ split.plan.address)
-        × IsDeskOf setup.config (string_bytes split.plan.name) (texts split.plan.members.items) copies.desk
-        × AreConfigured copies.desk.members setup.config)) }
-    ensures some { IfOk result (λ setup. setup.copies ≢ None) }
+    ensures copies { IfOk result (λ setup. ArePlanned setup.config session setup.copies) }
+    ensures members { IfOk result (λ setup. IfSome setup.copies (λ copies. AreConfigured copies.desk.members setup.config)) }
     ensures later { H.faults shelf.old ≤ H.faults shelf.new }
     ensures read { result ≡ Err SetupFault.ReadFault → Rose (H.faults shelf.old) (H.faults shelf.new) }
 {
-    let (plan, config) = match serve_setup(alloc, split.venue.as_slice(), shelf) {
+    let (plan, config) = match serve_setup(alloc, words, shelf) {
         Ok(setup) => setup,
         Err(fault) => return Err(fault),
     };
-    match copies_of(alloc, split.plan, &config) {
+    match copies_if_planned(alloc, session, &config) {
         Ok(copies) => Ok(Setup {
             plan,
             config,
-            copies: Some(copies),
+            copies,
         }),
         Err(fault) => Err(fault),
     }
@@ -170,6 +214,21 @@ fn set_up_both<H: Shelf>(alloc: Global, split: Split, shelf: &mut H) -> Result<S
 /// The venue that the words ask for, with the config of the whole file that they name, and the drop session, if they ask for one.
 /// Words whose session has no lawful name or whose members are not the config's, each once, are bad words.
 pub fn set_up<H: Shelf>(alloc: Global, words: &[String], shelf: &mut H) -> Result<Setup, SetupFault>
+    // The plan is the one that the words ask for. Where they ask for none, that alone is told, or want of memory.
+    ensures plan { IfOk result (λ setup. asked_plan (texts words.now) ≡ Some (plan_in setup.plan)) }
+    ensures no_plan { asked_plan (texts words.now) ≡ None → IsRefusedAs SetupFault.BadWords result }
+    ensures bad_words { result ≡ Err SetupFault.BadWords → AreBadWords (texts words.now) }
+
+    // On a shelf that tells its files the config is that of the named file's bytes, or its first line that is refused is told; a
+    // file that is not there is a read fault.
+    ensures meant { (plan : Plan) → asked_plan (texts words.now) ≡ Some plan → IfSome (H.told shelf.old) (λ files.
+        IfSome (file_named files plan.config) (λ text. MeetsFile (λ config. AsksUnlawfully config (remaining (texts words.now)))
+        (config_file MAX_CONFIG_BYTES text) result)) }
+    ensures missing { (plan : Plan) → asked_plan (texts words.now) ≡ Some plan → IfSome (H.told shelf.old) (λ files.
+        IsNone (file_named files plan.config) → IsRefusedAs SetupFault.ReadFault result) }
+    ensures sure { IsTrue (H.sure shelf.old) → (plan : Plan) → asked_plan (texts words.now) ≡ Some plan →
+        HasFile (H.told shelf.old) plan.config → result ≢ Err SetupFault.ReadFault }
+
     ensures config { IfOk result (λ setup. IsConfig setup.config) }
     ensures connections { IfOk result (λ setup. setup.plan.connections ≤ 64) }
 
@@ -181,15 +240,11 @@ pub fn set_up<H: Shelf>(alloc: Global, words: &[String], shelf: &mut H) -> Resul
     ensures read { result ≡ Err SetupFault.ReadFault → Rose (H.faults shelf.old) (H.faults shelf.new) }
 {
     match split_words(alloc, words) {
-        Ok(Some(split)) => set_up_both(alloc, split, shelf),
-        Ok(None) => match serve_setup(alloc, words, shelf) {
-            Ok((plan, config)) => Ok(Setup {
-                plan,
-                config,
-                copies: None,
-            }),
-            Err(fault) => Err(fault),
-        },
+        Ok(Some(split)) => {
+            let Split { venue, plan } = split;
+            set_up_with(alloc, venue.as_slice(), Some(plan), shelf)
+        }
+        Ok(None) => set_up_with(alloc, words, None, shelf),
         Err(WordFault::BadWords) => Err(SetupFault::BadWords),
         Err(WordFault::NoMemory) => Err(SetupFault::NoMemory),
     }
