@@ -1,5 +1,5 @@
 //! A floor for each connection, that of the drop session too.
-ghost use Rattle.std.specs.Prelude.{◌≡◌, ◌+◌, ◌-◌, ◌≤◌, length, map, IfOk, OnOk};
+ghost use Rattle.std.specs.Prelude.{◌≡◌, ◌+◌, ◌-◌, ◌≤◌, ◌++◌, ◌∷◌, [], length, map, IfOk, OnOk};
 ghost use Rattle.std.specs.List.{All, range_with_len};
 ghost use Rattle.turn_gate.specs.Rule.{whole};
 ghost use Rattle.venue_server.specs.Seating.{HasSeats};
@@ -54,6 +54,9 @@ pub fn jobs_and_last<'a, R: Wait, V: Held + Drop>(
     requires few { length inboxes.items ≤ 65 }
     ensures seats { OnOk result (HasSeats venue.now (whole - length inboxes.items) seats.new) }
     ensures count { IfOk result (λ made. length made.0.items + 1 ≡ length inboxes.items) }
+    ensures numbers { IfOk result (λ made. map (λ job. job.number) made.0.items ++ made.1.number ∷ []
+        ≡ range_with_len 0 (length inboxes.items)) }
+    ensures inboxes { IfOk result (λ made. map (λ job. job.inbox) made.0.items ++ made.1.inbox ∷ [] ≡ inboxes.items) }
     ensures floors { IfOk result (λ made. All (λ job. (job.floor.venue.now ≡ venue.now)
         × HasSeats venue.now 1 job.floor.seats) made.0.items) }
     ensures last { IfOk result (λ made. (made.1.floor.venue.now ≡ venue.now)
