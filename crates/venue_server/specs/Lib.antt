@@ -1,4 +1,5 @@
 pub mod Asking
 pub mod Ending
 pub mod Listed
+pub mod Outcomes
 pub mod Seating

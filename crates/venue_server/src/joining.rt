@@ -1,9 +1,10 @@
 //! The seats of all tasks together.
-ghost use Rattle.std.specs.Prelude.{◌≡◌, ◌+◌, ◌-◌, ◌≤◌, ℕ, length};
+ghost use Rattle.std.specs.Prelude.{◌≡◌, ◌+◌, ◌-◌, ◌≤◌, ◌++◌, ◌∷◌, [], ℕ, length, map};
 ghost use Rattle.std.specs.List.{All};
 ghost use Rattle.turn_gate.specs.Rule.{whole};
 ghost use Rattle.venue_core.specs.Joining.{HaveParts};
 ghost use Rattle.venue_core.specs.Venues.{AreSeatsOf};
+ghost use Rattle.venue_server.specs.Outcomes.{first_wrong};
 ghost use Rattle.venue_server.specs.Seating.{HasSeats};
 
 use crate::workers::{Finished, Outcome};
@@ -21,6 +22,7 @@ fn join_one<'a, R: Wait, V: Held + Drop>(
     requires other { HasSeats venue.now 1 one.floor.seats }
     ensures seats { AreSeatsOf venue.now seats.new }
     ensures parts { (parts : ℕ) → HaveParts parts seats.old → HaveParts (parts + 1) seats.new }
+    ensures outcome { result ≡ one.entry.outcome }
 {
     venue.join(seats, one.floor.seats);
     one.outcome
@@ -35,7 +37,8 @@ fn join_links<'a, R: Wait, V: Held + Drop>(
     requires few { length links.items ≤ 64 }
     requires seats { HasSeats venue.now (whole - (2 + length links.items)) seats.old }
     requires others { All (λ one. HasSeats venue.now 1 one.floor.seats) links.items }
-    ensures { HasSeats venue.now (whole - 2) seats.new }
+    ensures seats { HasSeats venue.now (whole - 2) seats.new }
+    ensures outcome { first_wrong (result ∷ []) ≡ first_wrong (map (λ one. one.outcome) links.entry.items) }
 {
     let mut outcome = Outcome::Served;
     for one in links {
@@ -58,7 +61,9 @@ pub fn join_all<'a, R: Wait, V: Held + Drop>(
     requires others { All (λ one. HasSeats venue.now 1 one.floor.seats) links.items }
     requires quotes { HasSeats venue.now 1 quoted.floor.seats }
     requires copies { HasSeats venue.now 1 copied.floor.seats }
-    ensures { HasSeats venue.now whole seats.new }
+    ensures seats { HasSeats venue.now whole seats.new }
+    ensures outcome { first_wrong (result ∷ [])
+        ≡ first_wrong (map (λ one. one.outcome) links.entry.items ++ quoted.entry.outcome ∷ copied.entry.outcome ∷ []) }
 {
     let served = join_links(venue, seats, links);
     let quoted = join_one(venue, seats, quoted);

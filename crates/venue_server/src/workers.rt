@@ -1,7 +1,8 @@
 //! What each thread does: it serves a connection, or submits the quotes.
-ghost use Rattle.std.specs.Prelude.{◌≡◌, length};
+ghost use Rattle.std.specs.Prelude.{◌≡◌, if◌then◌else◌, length};
 ghost use Rattle.venue_words.specs.Conditions.{IsConfig};
 ghost use Rattle.venue_words.specs.Floors.{setup_of};
+ghost use Rattle.venue_server.specs.Outcomes.{went_wrong};
 
 use io_edge::{FileShelf, RealClock};
 use member_gate::{CellDesks, DeskCell};
@@ -59,7 +60,9 @@ pub enum Outcome {
 
 impl Outcome {
     /// This one, or the other one where nothing went wrong here.
-    pub fn or(self, other: Outcome) -> Outcome {
+    pub fn or(self, other: Outcome) -> Outcome
+        ensures { result ≡ (if went_wrong self then self else other) }
+    {
         match self {
             Outcome::Served | Outcome::Quoted(QuoteEnd::Done) => other,
             _ => self,

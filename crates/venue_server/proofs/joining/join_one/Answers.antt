@@ -1,5 +1,5 @@
 -- The seats that were joined have their parts and the task's.
-use Rattle.std.proofs.Common.{◌≡◌, ◌+◌, subst, sym, ◌∙◌}
+use Rattle.std.proofs.Common.{◌+◌, subst, sym, ◌∙◌}
 use Rattle.venue_core.specs.Joining.{HaveParts}
 use Rattle.venue_core.specs.SeatLaws.{parts_joined}
 use Rattle.venue_server.proofs.joining.join_one.Goals as goal
