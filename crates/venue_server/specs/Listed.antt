@@ -28,18 +28,27 @@ listing_of config books = listing config (map part_of books)
 abbrev pub AreBooksOf : List SeatState → List BookView → Type 0
 AreBooksOf seats books = AllZip (IsBookOf (λ book. book.journal) (λ book. book.limit) book_setting) seats books
 
+-- the listing of the books of these seats' gates
+pub record ListsBooks (config : Config) (seats : List SeatState) (grew_by : List ℕ → Type 0) : Type 0 where
+  pub books : List BookView
+  pub of_seats : AreBooksOf seats books
+  pub grew : grew_by (listing_of config books)
+
+-- On `Done` the told bytes grew by the listing of the seats' books. On any other status they grew by a beginning of it, or by
+-- nothing where the venue was not closed.
+abbrev pub ListsSeats : Config → List SeatState → ServeStatus → Option (List ℕ) → Option (List ℕ) → Type 0
+ListsSeats config seats Done told told' = ListsBooks config seats (Appends told told')
+ListsSeats config seats status told told' = (told' ≡ told) ⊎ ListsBooks config seats (AppendsPrefix told told')
+
 -- the listing of a venue of the config that was closed with all parts of its seats
 pub record ListsVenue (config : Config) (grew_by : List ℕ → Type 0) : Type 0 where
   pub venue : VenueId
   pub setup : setup_in venue ≡ setup_of config
   pub seats : List SeatState
   pub has : HasSeats venue whole seats
-  pub books : List BookView
-  pub of_seats : AreBooksOf seats books
-  pub grew : grew_by (listing_of config books)
+  pub lists : ListsBooks config seats grew_by
 
--- On `Done` the told bytes grew by such a listing. On any other status they grew by a beginning of one, or by nothing where the
--- venue was not closed.
+-- the same of some venue of the config
 abbrev pub Lists : Config → ServeStatus → Option (List ℕ) → Option (List ℕ) → Type 0
 Lists config Done told told' = ListsVenue config (Appends told told')
 Lists config status told told' = (told' ≡ told) ⊎ ListsVenue config (AppendsPrefix told told')

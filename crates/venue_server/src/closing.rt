@@ -1,5 +1,5 @@
 //! The end of a run: the venue is closed, and its journals are listed.
-ghost use Rattle.std.specs.Prelude.{◌≡◌, ◌≤◌, Err, length};
+ghost use Rattle.std.specs.Prelude.{◌≡◌, ◌≢◌, ◌≤◌, Err, length};
 ghost use Rattle.venue_words.specs.Causes.{Rose};
 ghost use Rattle.venue_words.specs.Conditions.{IsConfig};
 ghost use Rattle.venue_words.specs.Floors.{setup_of};
@@ -8,7 +8,7 @@ ghost use Rattle.turn_gate.specs.Rule.{whole};
 ghost use Rattle.symbol_book.specs.Setting.{book_setting, reports_at};
 ghost use Rattle.venue_core.specs.Venues.{setup_in};
 ghost use Rattle.listing.specs.Listing.{part_text};
-ghost use Rattle.venue_server.specs.Listed.{Lists, listing_of};
+ghost use Rattle.venue_server.specs.Listed.{ListsSeats, listing_of};
 ghost use Rattle.venue_server.specs.Seating.{HasSeats};
 
 use io_edge::Sink;
@@ -63,7 +63,7 @@ fn list_books<K: Sink>(
     Ok(())
 }
 
-/// Closes the venue and lists its books.
+/// Closes the venue and lists the books of its seats.
 pub fn close_and_list<K: Sink>(
     alloc: Global,
     config: &Config,
@@ -74,9 +74,10 @@ pub fn close_and_list<K: Sink>(
     requires config { IsConfig config.now }
     requires setup { setup_in venue ≡ setup_of config.now }
     requires seats { HasSeats venue whole seats }
-    ensures listed { Lists config.now result (K.told out.old) (K.told out.new) }
+    ensures listed { ListsSeats config.now seats result (K.told out.old) (K.told out.new) }
     ensures later { K.faults out.old ≤ K.faults out.new }
     ensures fault { result ≡ ServeStatus.WriteFault → Rose (K.faults out.old) (K.faults out.new) }
+    ensures words { result ≢ ServeStatus.BadWords }
 {
     let Ok(books) = venue.close(alloc, seats) else {
         return ServeStatus::NoMemory;

@@ -1,6 +1,7 @@
 //! A run of the server.
-ghost use Rattle.std.specs.Prelude.{◌≡◌, ℕ, ◌≤◌, ◌<◌, length, vec_len, option_map, slice_index_or, IfOk, IfSome, OnErr, OnOk};
+ghost use Rattle.std.specs.Prelude.{◌≡◌, ◌≢◌, ◌⊎◌, ℕ, ◌≤◌, ◌<◌, None, length, vec_len, option_map, slice_index_or, IfOk, IfSome, OnErr, OnOk};
 ghost use Rattle.std.specs.List.{All};
+ghost use Rattle.program_words.specs.Words.{texts};
 ghost use Rattle.venue_words.specs.Causes.{Rose};
 ghost use Rattle.venue_words.specs.Conditions.{IsConfig};
 ghost use Rattle.venue_words.specs.Floors.{setup_of};
@@ -8,6 +9,7 @@ ghost use Rattle.turn_gate.specs.Rule.{whole};
 ghost use Rattle.serve_core.specs.Statuses.{exit_code};
 ghost use Rattle.drop_copy.specs.Desks.{AreConfigured};
 ghost use Rattle.venue_core.specs.Venues.{setup_in};
+ghost use Rattle.venue_server.specs.Asking.{AreBadWords, asked_plan};
 ghost use Rattle.venue_server.specs.Ending.{Ends, IsTold, status_of_words};
 ghost use Rattle.venue_server.specs.Listed.{Lists};
 ghost use Rattle.venue_server.specs.Seating.{HasSeats};
@@ -149,6 +151,7 @@ fn status_of<'c>(
 ) -> ServeStatus<'c>
     ensures done { result ≡ ServeStatus.Done → listed.entry ≡ ServeStatus.Done }
     ensures fault { result ≡ ServeStatus.WriteFault → listed.entry ≡ ServeStatus.WriteFault }
+    ensures words { result ≡ ServeStatus.BadWords → listed.entry ≡ ServeStatus.BadWords }
 {
     match outcome {
         Outcome::Served | Outcome::Quoted(QuoteEnd::Done) => listed,
@@ -171,6 +174,7 @@ pub fn serve<'c, R: Threads + Wait + Sync + rt::Clock, K: Sink>(
     ensures err { OnErr result (K.told out.new ≡ K.told out.old) }
     ensures later { K.faults out.old ≤ K.faults out.new }
     ensures fault { IfOk result (λ status. status ≡ ServeStatus.WriteFault → Rose (K.faults out.old) (K.faults out.new)) }
+    ensures words { IfOk result (λ status. status ≢ ServeStatus.BadWords) }
 {
     let (venue, mut seats) = make(
         server.alloc,
@@ -236,6 +240,7 @@ fn listen<
     ensures listed { Lists config.now result (K.told out.old) (K.told out.new) }
     ensures later { K.faults out.old ≤ K.faults out.new }
     ensures fault { result ≡ ServeStatus.WriteFault → Rose (K.faults out.old) (K.faults out.new) }
+    ensures words { result ≢ ServeStatus.BadWords }
 {
     let listener = match TcpListener::bind(rt, plan.address.as_str()) {
         Ok(listener) => listener,
@@ -267,6 +272,10 @@ pub fn run<
     ensures ends { Ends result (K.told out.old) (K.told out.new) (E.told err.old) (E.told err.new)
         (E.faults err.old) (E.faults err.new) }
     ensures fault { result ≡ 6 → Rose (K.faults out.old) (K.faults out.new) }
+
+    // The exit of bad words is that of words that are bad. Where they ask for no venue, it is that one, or that of want of memory.
+    ensures bad_words { result ≡ 2 → AreBadWords (texts words.now) }
+    ensures no_plan { asked_plan (texts words.now) ≡ None → (result ≡ 2) ⊎ (result ≡ 7) }
 {
     match set_up(system.alloc(), words, &mut FileShelf::new(system)) {
         Ok(
