@@ -1,5 +1,5 @@
 -- Seats that are split off, come back and are joined.
-use Rattle.std.proofs.Common.{◌≡◌, ◌<◌, ◌+◌, ◌-◌, get_or, ℕ, zero, suc, List, [], ◌∷◌, ◌++◌, length, map, slice_get, Some, refl, sym, ◌∙◌, ap, arith, append-nil, length-append, add-one}
+use Rattle.std.proofs.Common.{◌≡◌, ◌<◌, ◌+◌, ◌-◌, get_or, ℕ, zero, suc, List, [], ◌∷◌, ◌++◌, length, map, slice_get, Some, Result, Ok, Err, IfOk, refl, sym, ◌∙◌, ap, arith, append-nil, length-append, add-one}
 use Rattle.std.specs.List.{All, range_with_len}
 use Rattle.std.proofs.Math.Nat.{add-zero}
 use Rattle.std.proofs.lemmas.List.Elements.{All-nil, All-cons, All-head, All-tail}
@@ -48,6 +48,11 @@ first_parts [] first = All-nil (λ (seat : SeatState). seat.part ≡ whole)
 first_parts (s ∷ seats) first =
     All-cons (λ (seat : SeatState). seat.part ≡ whole) s seats (All-head IsFirstSeat s seats first).part
     (first_parts seats (All-tail IsFirstSeat s seats first))
+
+pub first_seats : {E : Type 0} (made : Result (VenueId × List SeatState) E) → IfOk made (λ made. AreSeatsOf made.0 made.1)
+    → IfOk made (λ made. All IsFirstSeat made.1) → IfOk made (λ made. HasSeats made.0 whole made.1)
+first_seats (Ok made) are first = record { are = are; have = first_parts made.1 first }
+first_seats (Err fault) are first = tt
 
 -- nothing is left of a list
 pub all_of : {A : Type 0} (all done rest : List A) → all ≡ done ++ rest → length rest ≡ 0 → all ≡ done

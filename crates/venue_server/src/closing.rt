@@ -1,5 +1,5 @@
 //! The end of a run: the venue is closed, and its journals are listed.
-ghost use Rattle.std.specs.Prelude.{◌≡◌, ◌≢◌, ◌≤◌, Err, length};
+ghost use Rattle.std.specs.Prelude.{◌≡◌, ◌≢◌, ◌≤◌, Err, IfOk, length, map};
 ghost use Rattle.venue_words.specs.Causes.{Rose};
 ghost use Rattle.venue_words.specs.Conditions.{IsConfig};
 ghost use Rattle.venue_words.specs.Floors.{setup_of};
@@ -8,7 +8,7 @@ ghost use Rattle.turn_gate.specs.Rule.{whole};
 ghost use Rattle.symbol_book.specs.Setting.{book_setting, reports_at};
 ghost use Rattle.venue_core.specs.Venues.{setup_in};
 ghost use Rattle.listing.specs.Listing.{part_text};
-ghost use Rattle.venue_server.specs.Listed.{ListsSeats, listing_of};
+ghost use Rattle.venue_server.specs.Listed.{AreBooksOf, ListsSeats, listing_of};
 ghost use Rattle.venue_server.specs.Seating.{HasSeats};
 
 use io_edge::Sink;
@@ -17,7 +17,7 @@ use serve_core::ServeStatus;
 use std::alloc::Global;
 use symbol_book::Book;
 use venue_core::{Seats, Venue};
-use venue_words::Config;
+use venue_words::{Config, NoMemory};
 
 /// Puts the listing of a symbol's book.
 fn list_book<K: Sink>(
@@ -63,6 +63,18 @@ fn list_books<K: Sink>(
     Ok(())
 }
 
+/// Closes a venue: its books come back, with the limits that it was set up with.
+fn close_venue(alloc: Global, venue: Venue<Book>, seats: Seats) -> Result<Vec<Book>, NoMemory>
+    requires { HasSeats venue whole seats }
+    ensures books { IfOk result (λ books. AreBooksOf seats books.items) }
+    ensures limits { IfOk result (λ books. map (λ book. book.limit) books.items ≡ (setup_in venue).limits) }
+{
+    match venue.close(alloc, seats) {
+        Ok(books) => Ok(books),
+        Err(_) => Err(NoMemory),
+    }
+}
+
 /// Closes the venue and lists the books of its seats.
 pub fn close_and_list<K: Sink>(
     alloc: Global,
@@ -79,7 +91,7 @@ pub fn close_and_list<K: Sink>(
     ensures fault { result ≡ ServeStatus.WriteFault → Rose (K.faults out.old) (K.faults out.new) }
     ensures words { result ≢ ServeStatus.BadWords }
 {
-    let Ok(books) = venue.close(alloc, seats) else {
+    let Ok(books) = close_venue(alloc, venue, seats) else {
         return ServeStatus::NoMemory;
     };
     match list_books(alloc, config, books.as_slice(), out) {

@@ -7,6 +7,7 @@ mod closing;
 pub mod copying;
 mod hints;
 mod joining;
+mod opening;
 pub mod running;
 mod splitting;
 mod workers;

@@ -19,6 +19,7 @@ use crate::closing::close_and_list;
 use crate::copying::CopySession;
 use crate::hints::{CONFIG, QUOTES, hint_of};
 use crate::joining::join_all;
+use crate::opening::open_venue;
 use crate::splitting::jobs_and_last;
 use crate::workers::{Outcome, Shared};
 use crate::working::work_all;
@@ -36,7 +37,7 @@ use std::sync::Wait;
 use std::sync::atomic::AtomicBool;
 use std::thread::Threads;
 use symbol_book::{Book, HashSeed};
-use venue_core::{Seated, Seats, Venue, make};
+use venue_core::{Seated, Seats, Venue};
 use venue_words::{Config, Floor, Held, NoMemory};
 
 /// The name under which a status is told.
@@ -176,7 +177,7 @@ pub fn serve<'c, R: Threads + Wait + Sync + rt::Clock, K: Sink>(
     ensures fault { IfOk result (λ status. status ≡ ServeStatus.WriteFault → Rose (K.faults out.old) (K.faults out.new)) }
     ensures words { IfOk result (λ status. status ≢ ServeStatus.BadWords) }
 {
-    let (venue, mut seats) = make(
+    let (venue, mut seats) = open_venue(
         server.alloc,
         HashSeed::random(server.system)?,
         server.config,

@@ -1,11 +1,14 @@
 -- What came of the words is what came of the config's file, and then of the drop session's plan.
-use Rattle.std.proofs.Common.{ℕ, List}
+use Rattle.std.proofs.Common.{ℕ, List, rules}
 use Rattle.line_reader.specs.ConfigFile.{config_file}
 use Rattle.venue_words.specs.declared.config.Config.{Config}
 use Rattle.venue_words.specs.declared.limits.TheConstants.{MAX_CONFIG_BYTES}
 use Rattle.venue_server.specs.Asking.{IsUnlawful}
 use Rattle.venue_server.proofs.Asked.{meets_fault, meets_refused, missing_as, not_missing, of_file}
 use Rattle.venue_server.proofs.asking.set_up_with.Goals as goal
+
+pub returns-in-Ok-copies_if_planned-clause-plan : goal.returns-in-Ok-copies_if_planned-clause-plan
+returns-in-Ok-copies_if_planned-clause-plan g c = search rules
 
 pub returns-in-Err-clause-meant : goal.returns-in-Err-clause-meant
 returns-in-Err-clause-meant g c plan is =

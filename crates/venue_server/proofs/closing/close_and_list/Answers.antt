@@ -1,11 +1,11 @@
--- There is a book for each symbol.
-use Rattle.std.proofs.Common.{length, ap, arith}
-use Rattle.venue_server.proofs.Closed.{few_books}
+use Rattle.std.proofs.Common.{rules}
 use Rattle.venue_server.proofs.closing.close_and_list.Goals as goal
 
-pub list_books-requires-clause-few : goal.list_books-requires-clause-few
-list_books-requires-clause-few g c =
-    let few = few_books c.args.config.now c.args.venue c.args.seats c.in-Ok.books.items c.requires.config c.requires.setup
-    c.requires.seats.are c.in-Ok.ensures.books in
-    let same = ap length c.as_slice.ensures.value in
-    omega arith
+pub returns-in-Ok-list_books-clause-listed : goal.returns-in-Ok-list_books-clause-listed
+returns-in-Ok-list_books-clause-listed g c = search rules
+
+pub returns-in-Err-WriteFault-clause-listed : goal.returns-in-Err-WriteFault-clause-listed
+returns-in-Err-WriteFault-clause-listed g c = search rules
+
+pub returns-clause-listed : goal.returns-clause-listed
+returns-clause-listed g c = search rules

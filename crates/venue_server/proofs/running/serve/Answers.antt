@@ -1,13 +1,6 @@
--- The first seats of the venue have all parts, and what was listed was listed under the status of the run.
+-- What was listed was listed under the status of the run.
 use Rattle.venue_server.proofs.Listings.{lists_as}
-use Rattle.venue_server.proofs.Seats.{first_parts}
 use Rattle.venue_server.proofs.running.serve.Goals as goal
-
-pub serve_books-requires-clause-seats : goal.serve_books-requires-clause-seats
-serve_books-requires-clause-seats g c κs within = record {
-  are = c.in_ok-venue.ensures.seats;
-  have = first_parts c.in_ok-venue.seats c.in_ok-venue.ensures.first;
-}
 
 pub returns-clause-listed : goal.returns-clause-listed
 returns-clause-listed g c =
