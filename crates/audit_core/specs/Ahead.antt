@@ -1,5 +1,5 @@
 -- What must still come so that a listing is whole.
-use Rattle.std.specs.Prelude.{◌≡◌, ◌≤◌, ℕ, ◌+◌, ◌⊎◌, true, List, [], ◌∷◌, ◌++◌, length, drop, Option, Some, None, IfSome}
+use Rattle.std.specs.Prelude.{◌≡◌, ◌≤◌, ℕ, ◌+◌, ◌⊎◌, nat_lt, Bool, true, false, List, [], ◌∷◌, ◌++◌, length, drop, Option, Some, None, IfSome, IsSome, ⊤}
 use Rattle.std.specs.List.{AllByRecursion, flat_map}
 use Rattle.venue_words.specs.declared.config.Config.{Config}
 use Rattle.venue_words.specs.declared.command.Event.{Event}
@@ -130,6 +130,16 @@ pub record Passes (telling : Telling) (Heard : Config → ℕ → List Event →
 abbrev pub Sees : Telling → (Config → ℕ → List Event → Type 0) → Config → Auditing → Auditor → List ℕ → Output → Output → Seen → Type 0
 Sees telling Heard config old auditor line from to Same = Passes telling Heard config old auditor line from to
 Sees telling Heard config old auditor line from to (Differs expected) = Refuses old line expected × (to ≡ from)
+
+-- whether a report of the event that was read last is still to come, so that the next line is known
+abbrev pub has_due : Option OpenPart → Bool
+has_due None = false
+has_due (Some part) = nat_lt part.told (length part.book.reports)
+
+-- where the line is seen to differ, it is told what should stand there
+abbrev pub SaysExpected : Seen → Type 0
+SaysExpected Same = ⊤
+SaysExpected (Differs expected) = IsSome expected
 
 -- ---- files
 

@@ -1,5 +1,5 @@
 -- Which texts are listings of a config: those of journals, with the reports that the market's rules make of them.
-use Rattle.std.specs.Prelude.{◌≡◌, ◌≤◌, ℕ, ◌+◌, true, List, [], ◌∷◌, length, slice_index, Ok, Some, IfSome}
+use Rattle.std.specs.Prelude.{◌≡◌, ◌≤◌, ℕ, ◌+◌, true, List, [], ◌∷◌, length, slice_index, Result, Ok, Err, Some, IfSome}
 use Rattle.std.specs.List.{AllByRecursion}
 use Rattle.io_edge.specs.Files.{Files, file_named}
 use Rattle.venue_words.specs.declared.limits.TheConstants.{MAX_CONFIG_BYTES}
@@ -10,6 +10,8 @@ use Rattle.venue_words.specs.declared.config.Config.{Config}
 use Rattle.eager_meaning.specs.Step.{Run, IsNumbered, runs}
 use Rattle.listing.specs.Listing.{Part, listing}
 use Rattle.listing_reader.specs.Fitting.{fits_event}
+use Rattle.audit_core.specs.declared.audit.AuditRefusal.{AuditRefusal}
+use Rattle.audit_core.specs.declared.audit.AuditRefusal.TheVariants.{Config as BadConfig}
 
 -- the event limit and the tick of a symbol
 abbrev pub limit_at : Config → ℕ → ℕ
@@ -65,3 +67,11 @@ OfText files name P = IfSome (file_named files name) P
 -- the config's file has this fault, where the fault is none of the outside
 abbrev pub IsConfigFault : Files → List ℕ → ConfigFault → Type 0
 IsConfigFault files name fault = OfText files name (λ text. IsMeant (config_file MAX_CONFIG_BYTES text) fault)
+
+-- the file says a config
+abbrev pub SaysConfig : Files → List ℕ → Type 0
+SaysConfig files name = (config : Config) × HasConfig files name config
+
+-- the answer is that the config was not read
+abbrev pub LacksConfig : {T : Type 0} → Result T AuditRefusal → Type 0
+LacksConfig result = (fault : ConfigFault) × (result ≡ Err (BadConfig fault))

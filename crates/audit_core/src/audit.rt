@@ -6,7 +6,7 @@ ghost use Rattle.line_reader.specs.declared.config_file.ConfigFault.TheVariants 
 ghost use Rattle.line_reader.specs.declared.config_file.ConfigFault.{ConfigFault};
 ghost use Rattle.listing_reader.specs.Fitting.{has_word_names};
 ghost use Rattle.venue_words.specs.declared.config.Config.{Config};
-ghost use Rattle.audit_core.specs.Audited.{HasConfig, HasListing, IsConfigFault, IsListing, OfText};
+ghost use Rattle.audit_core.specs.Audited.{HasConfig, HasListing, IsConfigFault, IsListing, LacksConfig, OfText, SaysConfig};
 ghost use Rattle.audit_core.specs.Differing.{DiffersAt, IsLongLine};
 ghost use Rattle.audit_core.specs.Names.{has_line_names};
 ghost use Rattle.audit_core.specs.declared.verdict.TheConstants.{MAX_LISTING_BYTES};
@@ -56,6 +56,9 @@ pub fn audit<H: Shelf, L: Ledger>(
     ensures differs { (line : ℕ) (expected : Option (List ℕ)) → result ≡ Ok (Verdict.Differs line expected) →
         IfSome (H.told shelf.old) (λ all. (config : Config) → HasConfig all files.entry.config.now config →
         OfText all files.entry.listing.now (λ text. DiffersAt (IsListing config) text line expected)) }
+
+    // Unless the answer is that the config was not read, its file says one.
+    ensures read { IfSome (H.told shelf.old) (λ all. LacksConfig result ⊎ SaysConfig all files.entry.config.now) }
 
     // Every other answer has its cause.
     ensures config { (fault : ConfigFault) → result ≡ Err (AuditRefusal.Config fault) → IfSome (H.told shelf.old) (λ all.

@@ -1,10 +1,10 @@
 //! Lines of a listing, one after the other.
-ghost use Rattle.std.specs.Prelude.{◌≡◌, ◌≤◌, ◌<◌, ◌⊎◌, ℕ, List, [], true, false, None, length, IsTrue, MatchResult};
+ghost use Rattle.std.specs.Prelude.{◌≡◌, ◌≤◌, ◌<◌, ◌⊎◌, ℕ, List, [], true, false, None, length, IfOk, IsTrue, MatchResult};
 ghost use Rattle.venue_words.specs.Conditions.{IsConfig};
 ghost use Rattle.script_text.specs.Lines.{has_end};
 ghost use Rattle.listing_reader.specs.Fitting.{has_word_names};
 ghost use Rattle.audit_core.specs.Audited.{IsListing, limit_at};
-ghost use Rattle.audit_core.specs.Ahead.{Awaits, GoesBehind, IsAt, IsHeard, Sees, StopsIn, at, with_part};
+ghost use Rattle.audit_core.specs.Ahead.{Awaits, GoesBehind, IsAt, IsHeard, SaysExpected, Sees, StopsIn, at, has_due, with_part};
 ghost use Rattle.audit_core.specs.Names.{has_line_names};
 ghost use Rattle.audit_core.specs.Progress.{IsOpen, HasRead, end_text};
 ghost use Rattle.audit_core.specs.Telling.{Begins, HasPutCause, Lists, Telling};
@@ -153,6 +153,7 @@ impl Auditor {
         ensures sees { MatchResult result
             (λ seen. Sees W.tells (W.heard watch.new) config.now (with_part (at config.now self.old) part) self.new text.now (W.output watch.old) (W.output watch.new) seen)
             (λ _. StopsIn W.tells (with_part (at config.now self.old) part) text.now (W.output watch.old) (W.output watch.new)) }
+        ensures due { IfOk result SaysExpected }
         ensures cause { HasPutCause (W.faults watch.old) (W.faults watch.new) result }
     {
         let line = match part.report_text(self.alloc, config, self.symbol) {
@@ -244,6 +245,7 @@ impl Auditor {
         ensures sees { MatchResult result
             (λ seen. Sees W.tells (W.heard watch.new) config.now (at config.now self.old) self.new text.now (W.output watch.old) (W.output watch.new) seen)
             (λ _. StopsIn W.tells (at config.now self.old) text.now (W.output watch.old) (W.output watch.new)) }
+        ensures due { has_due self.old.part ≡ true → IfOk result SaysExpected }
         ensures cause { HasPutCause (W.faults watch.old) (W.faults watch.new) result }
     {
         match self.part.take() {
