@@ -1,10 +1,10 @@
 -- What is told of all symbols is nothing just where each journal interleaves what the feeds ask of its symbol.
-use Rattle.std.proofs.Common.{◌≡◌, ℕ, zero, suc, ◌+◌, List, [], ◌∷◌, ◌++◌, length, map, slice_get, Option, Some, None, refl, sym, ◌∙◌, ap, subst, arith}
+use Rattle.std.proofs.Common.{◌≡◌, ◌⊎◌, inl, inr, ℕ, zero, suc, ◌+◌, List, [], ◌∷◌, ◌++◌, length, map, slice_get, Option, Some, None, refl, sym, ◌∙◌, ap, subst, arith}
 use Rattle.std.specs.Prelude.{Result, Ok, Err, IfSome}
 use Rattle.std.proofs.lemmas.List.{length-map}
 use Rattle.io_edge.specs.Files.{Files, file_named}
 use Rattle.venue_words.specs.declared.limits.TheConstants.{MAX_CONFIG_BYTES}
-use Rattle.line_reader.specs.ConfigFile.{config_file}
+use Rattle.line_reader.specs.ConfigFile.{Answer, config_file}
 use Rattle.venue_words.specs.declared.command.Event.{Event}
 use Rattle.venue_words.specs.declared.config.Config.{Config}
 use Rattle.eager_meaning.specs.Interleaving.{Interleaves, Timed}
@@ -15,12 +15,15 @@ use Rattle.listing.specs.Listing.{Part, RunsAreInOrder, listing_from}
 use Rattle.listing_reader.specs.Fitting.{has_word_names}
 use Rattle.feeds_core.specs.FeedFiles.{texts_named}
 use Rattle.feeds_core.specs.FeedLists.{asked_in}
-use Rattle.feeds_core.specs.FeedRuns.{AreJournalsOf}
+use Rattle.feeds_core.specs.FeedRuns.{AreJournalsOf, IsWhole, texts_of, with_feeds}
 use Rattle.feeds_core.specs.declared.feed_list.FeedList.{FeedList}
+use Rattle.feeds_core.specs.declared.status.FeedsStatus.{FeedsStatus}
 use Rattle.audit_core.specs.Audited.{AreParts, HasConfig}
 use Rattle.audit_core.specs.Names.{has_line_names}
 use Rattle.audit_core.specs.Telling.{day_text_from, events_text, journal_text}
-use Rattle.audit_feeds.specs.Days.{AreListsOf, HasPlainNames, IsDay, IsDayOfFeeds, DepartsFromFeeds, TellsDepartures}
+use Rattle.audit_feeds.specs.Days.{AreListsOf, AreSoundFeeds, HasPlainNames, IsDay, IsDayOfFeeds, DepartsFromFeeds, LacksFeeds, TellsDepartures, TellsOfFeeds}
+use Rattle.audit_feeds.specs.declared.auditing.FeedsRefusal.{FeedsRefusal}
+use Rattle.audit_feeds.specs.declared.auditing.FeedsRefusal.TheVariants.{Feeds as BadFeeds}
 use Rattle.audit_feeds.specs.FeedsText.{departures_telling, departures_text}
 use Rattle.audit_feeds.proofs.Departing.{interleaves, nothing_told}
 use Rattle.audit_feeds.proofs.Uniqueness.{one_listing}
@@ -181,6 +184,14 @@ module _ (in_order : RunsAreInOrder) (few : ReportsAreFew) (files : Files) (conf
       some (told_of files config listing_name feeds lists are told tells
       ∙ none_interleaves (asked_in lists) are.of are.texts tells.lists.parts are.commands holds)
 
+-- feeds whose commands are listed have no refused line
+sound_of : (files : Files) (config : List ℕ) (feeds : List (List ℕ)) (lists : List FeedList) → AreListsOf files config feeds lists → AreSoundFeeds files config feeds
+sound_of files config feeds lists are = record {
+  texts = texts_of are.text are.texts;
+  found = ap (λ (c : Option (List ℕ)). with_feeds c (texts_named files feeds)) are.found ∙ ap (λ (t : Option (List (List ℕ))). with_feeds (Some are.text) t) are.found_feeds;
+  sound = subst (λ (a : Answer). IsWhole a are.texts) (sym are.says) are.sound;
+}
+
 -- of a shelf that tells its files
 module _ (config listing_name : List ℕ) (feeds : List (List ℕ)) (lists : List FeedList) where
   pub if_day : (told later : Option Files) (shown : List FeedList) (departures : List ℕ) → later ≡ told → shown ≡ lists
@@ -211,3 +222,27 @@ module _ (config listing_name : List ℕ) (feeds : List (List ℕ)) (lists : Lis
       no_day in_order few files config listing_name feeds lists are departures some
       (subst (λ (l : List FeedList). TellsDepartures files config listing_name (asked_in l) departures) is
       (subst (λ (t : Option Files). IfSome t (λ files. TellsDepartures files config listing_name (asked_in shown) departures)) same tells))
+
+  pub if_told : (told later : Option Files) (shown : List FeedList) (departures text : List ℕ) → later ≡ told → shown ≡ lists
+      → IfSome told (λ files. AreListsOf files config feeds lists) → IfSome later (λ files. TellsDepartures files config listing_name (asked_in shown) departures)
+      → departures ≡ text → IfSome told (λ files. TellsOfFeeds files config listing_name feeds text)
+  if_told None later shown departures text same is are tells text_is = tt
+  if_told (Some files) later shown departures text same is are tells text_is = record {
+    lists = lists;
+    are = are;
+    tells =
+        subst (λ (s : List ℕ). TellsDepartures files config listing_name (asked_in lists) s) text_is
+        (subst (λ (l : List FeedList). TellsDepartures files config listing_name (asked_in l) departures) is
+        (subst (λ (t : Option Files). IfSome t (λ files. TellsDepartures files config listing_name (asked_in shown) departures)) same tells));
+  }
+
+  pub if_sound : (told : Option Files) (Q : Type 0) → IfSome told (λ files. AreListsOf files config feeds lists)
+      → IfSome told (λ files. Q ⊎ AreSoundFeeds files config feeds)
+  if_sound None Q are = tt
+  if_sound (Some files) Q are = inr (sound_of files config feeds lists are)
+
+-- the answer is that the feeds were not taken
+pub if_refused : {T : Type 0} (told : Option Files) (config : List ℕ) (feeds : List (List ℕ)) (status : FeedsStatus) (result : Result T FeedsRefusal)
+    → result ≡ Err (BadFeeds status) → IfSome told (λ files. LacksFeeds result ⊎ AreSoundFeeds files config feeds)
+if_refused None config feeds status result is = tt
+if_refused (Some files) config feeds status result is = inl (status, is)

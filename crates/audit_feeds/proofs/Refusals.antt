@@ -1,5 +1,5 @@
 -- Why the feeds of a config that is refused are not taken.
-use Rattle.std.proofs.Common.{◌≡◌, ℕ, List, Option, Some, None, refl, sym, ◌∙◌, ap, subst}
+use Rattle.std.proofs.Common.{◌≡◌, ◌⊎◌, inl, inr, ℕ, List, Option, Some, None, refl, sym, ◌∙◌, ap, subst}
 use Rattle.std.specs.Prelude.{Result, Ok, Err, IfOk, IfSome}
 use Rattle.io_edge.specs.Files.{Files}
 use Rattle.script_text.specs.declared.fault.LineFault.{LineFault}
@@ -59,6 +59,15 @@ module _ (told : Option Files) (config listing : List ℕ) {R : Type 0} (result 
   cause_is (Listing ReadFault) is bad split long large = if_some (λ all. IsAuditCause all config listing (Listing ReadFault)) told (λ all. tt)
   cause_is (Listing WriteFault) is bad split long large = if_some (λ all. IsAuditCause all config listing (Listing WriteFault)) told (λ all. tt)
   cause_is (Listing NoMemory) is bad split long large = if_some (λ all. IsAuditCause all config listing (Listing NoMemory)) told (λ all. tt)
+
+-- nothing in the files is the cause of a want of memory
+pub memory_is : (told : Option Files) (config listing : List ℕ) (before after : AuditRefusal) → (after ≡ before) ⊎ (after ≡ Listing NoMemory)
+    → IfSome told (λ all. IsAuditCause all config listing before) → IfSome told (λ all. IsAuditCause all config listing after)
+memory_is told config listing before after (inl same) why =
+    subst (λ (r : AuditRefusal). IfSome told (λ all. IsAuditCause all config listing r)) (sym same) why
+memory_is told config listing before after (inr none) why =
+    subst (λ (r : AuditRefusal). IfSome told (λ all. IsAuditCause all config listing r)) (sym none)
+    (if_some (λ all. IsAuditCause all config listing (Listing NoMemory)) told (λ all. tt))
 
 -- a line that differs, of the verdict that was found
 pub differs_is : {E F : Type 0} (Q : ℕ → Option (List ℕ) → Type 0) (result : Result Verdict E) (verdict : Verdict) (found : Result Found F) → result ≡ Ok verdict

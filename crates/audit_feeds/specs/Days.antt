@@ -1,5 +1,5 @@
 -- What a day's listing is to its feeds.
-use Rattle.std.specs.Prelude.{◌≡◌, ◌<◌, ◌⊎◌, ℕ, List, map, length, true, false, Some, Ok, Err}
+use Rattle.std.specs.Prelude.{◌≡◌, ◌<◌, ◌⊎◌, ℕ, List, map, length, true, false, Some, Result, Ok, Err}
 use Rattle.io_edge.specs.Files.{Files, file_named}
 use Rattle.venue_words.specs.Conditions.{IsConfig}
 use Rattle.venue_words.specs.declared.config.Config.{Config}
@@ -12,7 +12,7 @@ use Rattle.listing_reader.specs.Fitting.{has_word_names}
 use Rattle.feed_work.specs.Feeds.{Asked, commands_at}
 use Rattle.feeds_core.specs.FeedFiles.{texts_named}
 use Rattle.feeds_core.specs.FeedLists.{asked_in}
-use Rattle.feeds_core.specs.FeedRuns.{AreJournalsOf, IsRefused, IsSound, run_of}
+use Rattle.feeds_core.specs.FeedRuns.{AreJournalsOf, IsRefused, IsSound, IsWhole, Texts, named_texts, run_of}
 use Rattle.feeds_core.specs.Working.{IsStopped}
 use Rattle.feeds_core.specs.declared.feed_list.FeedList.{FeedList}
 use Rattle.feeds_core.specs.declared.status.FeedsStatus.{FeedsStatus}
@@ -25,6 +25,8 @@ use Rattle.audit_core.specs.declared.audit.AuditRefusal.{AuditRefusal}
 use Rattle.audit_core.specs.declared.audit.AuditRefusal.TheVariants.{Config as BadConfig, SplitName, Listing}
 use Rattle.audit_core.specs.declared.verdict.AuditFault.TheVariants.{LongLine, TooLarge}
 use Rattle.audit_core.specs.declared.verdict.TheConstants.{MAX_LISTING_BYTES}
+use Rattle.audit_feeds.specs.declared.auditing.FeedsRefusal.{FeedsRefusal}
+use Rattle.audit_feeds.specs.declared.auditing.FeedsRefusal.TheVariants.{Feeds as BadFeeds}
 use Rattle.audit_feeds.specs.FeedsText.{departures_telling}
 
 -- one file says a config, others are feeds, and another is the listing of journals of the config, with the reports that the market's rules make of them:
@@ -49,6 +51,16 @@ IsDayOfFeeds files config listing_name feeds = IsDay AreJournalsOf files config 
 -- some journal does not
 abbrev pub DepartsFromFeeds : Files → List ℕ → List ℕ → List (List ℕ) → Type 0
 DepartsFromFeeds files config listing_name feeds = IsDay (λ of texts journals. AreJournalsOf of texts journals → ⊥) files config listing_name feeds
+
+-- a config and feeds of it, all of them files, have no refused line, and each journal has room for the feeds' commands
+pub record AreSoundFeeds (files : Files) (config : List ℕ) (feeds : List (List ℕ)) : Type 0 where
+  pub texts : Texts
+  pub found : named_texts files (record { config = config; feeds = feeds }) ≡ Some texts
+  pub sound : IsWhole (config_file MAX_CONFIG_BYTES texts.config) texts.feeds
+
+-- the answer is that the feeds were not taken
+abbrev pub LacksFeeds : {T : Type 0} → Result T FeedsRefusal → Type 0
+LacksFeeds result = (status : FeedsStatus) × (result ≡ Err (BadFeeds status))
 
 -- a config whose names are words on one line, so that the words of a listing's lines can be told apart
 pub record HasPlainNames (config : Config) : Type 0 where
@@ -78,6 +90,12 @@ pub record TellsDepartures (files : Files) (config listing_name : List ℕ) (fee
   pub text : List ℕ
   pub found : file_named files listing_name ≡ Some text
   pub lists : Lists (departures_telling feeds) of text told
+
+-- the lists are those of the feeds, and this is told of where the journals are not what they ask
+pub record TellsOfFeeds (files : Files) (config listing_name : List ℕ) (feeds : List (List ℕ)) (told : List ℕ) : Type 0 where
+  pub lists : List FeedList
+  pub are : AreListsOf files config feeds lists
+  pub tells : TellsDepartures files config listing_name (asked_in lists) told
 
 -- ---- why there is no verdict
 

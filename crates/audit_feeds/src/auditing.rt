@@ -1,18 +1,18 @@
 //! An audit of a listing by its config and its feeds.
-ghost use Rattle.std.specs.Prelude.{◌≡◌, ◌≢◌, ◌≤◌, ℕ, List, [], Option, Ok, Err, map, length, IfSome};
+ghost use Rattle.std.specs.Prelude.{◌≡◌, ◌≢◌, ◌≤◌, ◌⊎◌, ℕ, List, [], Option, Ok, Err, map, length, IfSome, IsTrue};
 ghost use Rattle.venue_words.specs.Causes.{Rose};
 ghost use Rattle.venue_words.specs.declared.config.Config.{Config};
 ghost use Rattle.venue_words.specs.declared.limits.TheConstants.{MAX_CONFIG_BYTES, MAX_FEEDS};
 ghost use Rattle.line_reader.specs.ConfigFile.{config_file};
 ghost use Rattle.line_reader.specs.declared.config_file.ConfigFault.TheVariants as config_fault;
 ghost use Rattle.feeds_core.specs.FeedLists.{asked_in};
-ghost use Rattle.feeds_core.specs.FeedRuns.{named_texts};
+ghost use Rattle.feeds_core.specs.FeedRuns.{HasNamed, named_texts};
 ghost use Rattle.feeds_core.specs.declared.status.FeedsStatus.{FeedsStatus};
 ghost use Rattle.audit_core.specs.Audited.{HasConfig, IsListing, OfText};
 ghost use Rattle.audit_core.specs.Differing.{DiffersAt};
 ghost use Rattle.audit_core.specs.declared.audit.AuditRefusal.{AuditRefusal};
 ghost use Rattle.audit_core.specs.declared.verdict.AuditFault.TheVariants as audit_fault;
-ghost use Rattle.audit_feeds.specs.Days.{HasPlainNames, IsAuditCause, IsDayOfFeeds, StopsFor, DepartsFromFeeds};
+ghost use Rattle.audit_feeds.specs.Days.{AreSoundFeeds, HasPlainNames, IsAuditCause, IsDayOfFeeds, LacksFeeds, StopsFor, DepartsFromFeeds, TellsOfFeeds};
 
 use crate::lists::read_lists;
 use crate::telling::{Found, tell_departures};
@@ -86,12 +86,18 @@ pub fn audit_feeds<R: Threads + Sync, H: Shelf, L: Ledger>(
         IsDayOfFeeds all files.entry.config.now files.entry.listing.now (map (λ feed. feed.now) feeds.now)) }
     ensures departures { (text : List ℕ) → result ≡ Ok (FeedsVerdict.Departures text) → IfSome (H.told shelf.old) (λ all.
         DepartsFromFeeds all files.entry.config.now files.entry.listing.now (map (λ feed. feed.now) feeds.now)) }
+    ensures tells { (text : List ℕ) → result ≡ Ok (FeedsVerdict.Departures text) → IfSome (H.told shelf.old) (λ all.
+        TellsOfFeeds all files.entry.config.now files.entry.listing.now (map (λ feed. feed.now) feeds.now) text) }
     ensures exact { (text : List ℕ) → result ≡ Ok (FeedsVerdict.Departures text) → IfSome (H.told shelf.old) (λ all.
         (config : Config) → HasConfig all files.entry.config.now config → HasPlainNames config →
         IsDayOfFeeds all files.entry.config.now files.entry.listing.now (map (λ feed. feed.now) feeds.now) → ⊥) }
     ensures differs { (line : ℕ) (expected : Option (List ℕ)) → result ≡ Ok (FeedsVerdict.Differs line expected) →
         IfSome (H.told shelf.old) (λ all. (config : Config) → HasConfig all files.entry.config.now config →
         OfText all files.entry.listing.now (λ text. DiffersAt (IsListing config) text line expected)) }
+
+    // Unless the answer is that the feeds were not taken, no line of theirs is refused.
+    ensures read { IfSome (H.told shelf.old) (λ all.
+        LacksFeeds result ⊎ AreSoundFeeds all files.entry.config.now (map (λ feed. feed.now) feeds.now)) }
 
     // Every other answer has its cause.
     ensures feeds { (status : FeedsStatus) → result ≡ Err (FeedsRefusal.Feeds status) → IfSome (H.told shelf.old) (λ all.
@@ -104,6 +110,10 @@ pub fn audit_feeds<R: Threads + Sync, H: Shelf, L: Ledger>(
     ensures feeds_fault { result ≡ Err (FeedsRefusal.Feeds FeedsStatus.ReadFault) → Rose (H.faults shelf.old) (H.faults shelf.new) }
     ensures config_fault { result ≡ Err (FeedsRefusal.Audit (AuditRefusal.Config config_fault.ReadFault)) → Rose (H.faults shelf.old) (H.faults shelf.new) }
     ensures listing_fault { result ≡ Err (FeedsRefusal.Audit (AuditRefusal.Listing audit_fault.ReadFault)) → Rose (H.faults shelf.old) (H.faults shelf.new) }
+    ensures quiet { result ≢ Err (FeedsRefusal.Audit (AuditRefusal.Listing audit_fault.WriteFault)) }
+    ensures sure_feeds { IsTrue (H.sure shelf.old) →
+        HasNamed (H.told shelf.old) (record { config = files.entry.config.now; feeds = map (λ feed. feed.now) feeds.now }) →
+        result ≢ Err (FeedsRefusal.Feeds FeedsStatus.ReadFault) }
 {
     let lists = match read_lists(rt, alloc, files.config, feeds, shelf) {
         Ok(lists) => lists,

@@ -1,9 +1,9 @@
 //! What the feeds of a config ask.
-ghost use Rattle.std.specs.Prelude.{◌≡◌, ◌≤◌, ℕ, List, Err, map, length, IfErr, IfOk, IfSome};
+ghost use Rattle.std.specs.Prelude.{◌≡◌, ◌≢◌, ◌≤◌, ℕ, List, Err, map, length, IfErr, IfOk, IfSome, IsTrue};
 ghost use Rattle.venue_words.specs.Causes.{Rose};
 ghost use Rattle.venue_words.specs.declared.limits.TheConstants.{MAX_CONFIG_BYTES, MAX_FEEDS};
 ghost use Rattle.line_reader.specs.ConfigFile.{Answer, config_file};
-ghost use Rattle.feeds_core.specs.FeedRuns.{named_texts};
+ghost use Rattle.feeds_core.specs.FeedRuns.{HasNamed, named_texts};
 ghost use Rattle.audit_feeds.specs.Days.{AreListsOf, StopsFor};
 
 use feeds_core::FeedsStatus;
@@ -47,6 +47,9 @@ pub fn read_lists<R: Threads + Sync, H: Shelf>(
     ensures told { H.told shelf.new ≡ H.told shelf.old }
     ensures later { H.faults shelf.old ≤ H.faults shelf.new }
     ensures fault { result ≡ Err FeedsStatus.ReadFault → Rose (H.faults shelf.old) (H.faults shelf.new) }
+    ensures sure { IsTrue (H.sure shelf.old) →
+        HasNamed (H.told shelf.old) (record { config = config.now; feeds = map (λ feed. feed.now) feeds.now }) →
+        result ≢ Err FeedsStatus.ReadFault }
 {
     let files = match read_files(alloc, FeedPlan { config, feeds }, shelf) {
         Ok(files) => files,

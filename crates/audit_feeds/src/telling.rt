@@ -1,5 +1,5 @@
 //! An audit that tells where journals are not what feeds ask.
-ghost use Rattle.std.specs.Prelude.{◌≡◌, ◌≢◌, ◌≤◌, ◌<◌, ℕ, List, [], Option, Some, Ok, Err, IfErr, IfOk, IfSome, length};
+ghost use Rattle.std.specs.Prelude.{◌≡◌, ◌≢◌, ◌≤◌, ◌<◌, ◌⊎◌, ℕ, List, [], Option, Some, Ok, Err, IfErr, IfOk, IfSome, length};
 ghost use Rattle.std.specs.declared.alloc.Global.{Global};
 ghost use Rattle.venue_words.specs.Causes.{Rose};
 ghost use Rattle.venue_words.specs.declared.config.Config.{Config};
@@ -40,6 +40,19 @@ fn found_of(alloc: Global, verdict: Verdict, sink: &MemSink) -> Result<Found, Au
     }
 }
 
+/// Why there is no verdict, where what is told goes to memory: there a put fails only where memory is wanted.
+fn refusal_in_memory(refusal: AuditRefusal) -> AuditRefusal
+    ensures quiet { result ≢ AuditRefusal.Listing AuditFault.WriteFault }
+    ensures same { (result ≡ refusal) ⊎ (result ≡ AuditRefusal.Listing AuditFault.NoMemory) }
+{
+    match refusal {
+        AuditRefusal::Listing(AuditFault::WriteFault) => {
+            AuditRefusal::Listing(AuditFault::NoMemory)
+        }
+        refusal => refusal,
+    }
+}
+
 /// Audits a listing, and tells where its journals are not what the feeds ask that the type stands for.
 #[tactic(auto, using(crate::proofs::Putting::tells))]
 pub fn tell_departures<G: Given, H: Shelf, L: Ledger>(
@@ -62,6 +75,7 @@ pub fn tell_departures<G: Given, H: Shelf, L: Ledger>(
     ensures later { H.faults shelf.old ≤ H.faults shelf.new }
     ensures config_fault { result ≡ Err (AuditRefusal.Config config_fault.ReadFault) → Rose (H.faults shelf.old) (H.faults shelf.new) }
     ensures listing_fault { result ≡ Err (AuditRefusal.Listing AuditFault.ReadFault) → Rose (H.faults shelf.old) (H.faults shelf.new) }
+    ensures quiet { result ≢ Err (AuditRefusal.Listing AuditFault.WriteFault) }
 {
     let rows: DepartureRows<'_, G> = DepartureRows::new(lists);
     let Ok(mut table) = DepartureTable::new(alloc, rows, MemSink::new(alloc, Vec::new(alloc)))
@@ -70,6 +84,6 @@ pub fn tell_departures<G: Given, H: Shelf, L: Ledger>(
     };
     match tabulate(alloc, files, shelf, &mut table, steps) {
         Ok(verdict) => found_of(alloc, verdict, &table.into_out()),
-        Err(refusal) => Err(refusal),
+        Err(refusal) => Err(refusal_in_memory(refusal)),
     }
 }
