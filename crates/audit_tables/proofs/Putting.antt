@@ -5,8 +5,6 @@ use Rattle.io_edge.specs.Files.{Files, file_named}
 use Rattle.venue_words.specs.declared.config.Config.{Config}
 use Rattle.venue_words.specs.declared.limits.TheConstants.{MAX_CONFIG_BYTES}
 use Rattle.line_reader.specs.ConfigFile.{config_file}
-use Rattle.line_reader.specs.declared.config_file.ConfigFault.{ConfigFault}
-use Rattle.line_reader.specs.declared.config_file.ConfigFault.TheVariants as config_fault
 use Rattle.line_reader.specs.declared.config_file.ConfigFile.{ConfigFile}
 use Rattle.listing.specs.Handing.{HandsOn}
 use Rattle.listing.specs.Listing.{listing}
@@ -20,6 +18,7 @@ use Rattle.audit_core.specs.Differing.{lines_text}
 use Rattle.audit_core.specs.Fronts.{IsFront, SaysBefore, SaysSome}
 use Rattle.audit_core.specs.Telling.{Begins, Lists, ListsAndSays, Output, Says, Telling, day_text}
 use Rattle.audit_core.proofs.Erring.{files_map}
+use Rattle.audit_core.proofs.Filing.{IsThere, at_text, says_config, text_of}
 use Rattle.audit_tables.specs.Tables.{Puts, PutsBefore, PutsDay, PutsListing, PutsSome}
 
 -- ---- beginnings of a listing
@@ -186,10 +185,6 @@ put_nothing telling header (Some files) name listing out = λ config has.
     some_text (file_named files listing) (λ text. PutsSome telling header config text out out)
     (λ text. some_first telling header config text out out (0, appends_none out.told))
 
--- the file is there
-abbrev pub IsThere : Option Files → List ℕ → Type 0
-IsThere all name = IfSome all (λ files. IsNone (file_named files name) → ⊥)
-
 no_fault : (r : Result Verdict AuditFault) (verdict : Verdict) → r ≡ Ok verdict
     → (r ≡ Err audit_fault.ReadFault) ⊎ (r ≡ Err audit_fault.NoMemory) → ⊥
 no_fault r verdict is (inl e) = cc
@@ -201,29 +196,11 @@ pub never_missing : (all : Option Files) (name : List ℕ) (r : Result Verdict A
 never_missing None name r verdict Q is missing = tt
 never_missing (Some files) name r verdict Q is missing = λ none. absurd (no_fault r verdict is (missing none))
 
-no_config_fault : (r : Result ConfigFile ConfigFault) (file : ConfigFile) → r ≡ Ok file
-    → (r ≡ Err config_fault.ReadFault) ⊎ (r ≡ Err config_fault.NoMemory) → ⊥
-no_config_fault r file is (inl e) = cc
-no_config_fault r file is (inr e) = cc
-
-pub config_there : (all : Option Files) (name : List ℕ) (r : Result ConfigFile ConfigFault) (file : ConfigFile) → r ≡ Ok file
-    → IfSome all (λ files. IsNone (file_named files name) → (r ≡ Err config_fault.ReadFault) ⊎ (r ≡ Err config_fault.NoMemory))
-    → IsThere all name
-config_there None name r file is missing = tt
-config_there (Some files) name r file is missing = λ none. no_config_fault r file is (missing none)
-
 pub listing_there : (all : Option Files) (name : List ℕ) (r : Result Verdict AuditFault) (verdict : Verdict) → r ≡ Ok verdict
     → IfSome all (λ files. IsNone (file_named files name) → IsErr r) → IsThere all name
 listing_there None name r verdict is missing = tt
 listing_there (Some files) name r verdict is missing = λ none.
     let e : false ≡ true = subst (λ (x : Result Verdict AuditFault). is_err x ≡ true) is (missing none) in cc
-
-text_of : (file : Option (List ℕ)) → (IsNone file → ⊥) → (text : List ℕ) × (file ≡ Some text)
-text_of None there = absurd (there refl)
-text_of (Some text) there = (text, refl)
-
-at_text : (file : Option (List ℕ)) (P : List ℕ → Type 0) (text : List ℕ) → file ≡ Some text → IfSome file P → P text
-at_text file P text is said = subst (λ (t : Option (List ℕ)). IfSome t P) is said
 
 -- both files are there, and say what was put
 pub put_day : (telling : Telling) (header : List ℕ) (all : Option Files) (name listing : List ℕ) (file : ConfigFile) (from to : Output)
@@ -233,15 +210,9 @@ pub put_day : (telling : Telling) (header : List ℕ) (all : Option Files) (name
     → IfSome all (λ files. PutsDay telling header files name listing from to)
 put_day telling header None name listing file from to read here there puts = tt
 put_day telling header (Some files) name listing file from to read here there puts =
-    let config = text_of (file_named files name) here in
     let text = text_of (file_named files listing) there in record {
       of = file.config;
-      says = record {
-        text = config.0;
-        found = config.1;
-        bytes = file.bytes;
-        says = at_text (file_named files name) (λ t. config_file MAX_CONFIG_BYTES t ≡ Ok (file.config, file.bytes)) config.0 config.1 read;
-      };
+      says = says_config files name file here read;
       text = text.0;
       found = text.1;
       puts = at_text (file_named files listing) (λ t. PutsListing telling header file.config t from to) text.0 text.1 puts;

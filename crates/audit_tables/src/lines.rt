@@ -1,7 +1,8 @@
 //! Lines that are put in large pieces.
-ghost use Rattle.std.specs.Prelude.{◌≡◌, [], IfOk, OnOk};
+ghost use Rattle.std.specs.Prelude.{◌≡◌, ◌<◌, [], length, IfOk, OnOk};
 ghost use Rattle.venue_words.specs.Causes.{HasCause};
 ghost use Rattle.audit_core.specs.Telling.{SaysOn};
+ghost use Rattle.audit_tables.specs.declared.lines.TheConstants.{PIECE};
 
 use io_edge::{Failed, Sink};
 use std::alloc::Global;
@@ -43,6 +44,7 @@ impl<K: Sink + Drop> Lines<K> {
     pub fn put_piece(&mut self) -> Result<(), Failed>
         ensures text { SaysOn (record { told = K.told self.old.out; held = self.old.bytes.items })
             (record { told = K.told self.new.out; held = self.new.bytes.items }) [] result }
+        ensures few { OnOk result (length self.new.bytes.items < PIECE) }
         ensures cause { HasCause (K.faults self.old.out) (K.faults self.new.out) result }
     {
         if self.bytes.len() < PIECE {

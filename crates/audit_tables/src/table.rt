@@ -1,6 +1,6 @@
 //! A table of an audited day.
-ghost use Rattle.std.specs.Prelude.{◌≡◌, ◌≤◌, ◌<◌, ◌⊎◌, ℕ, List, [], Option, Ok, Err, true, false, length, IfErr, IfSome, IsErr, IsNone, OnOk};
-ghost use Rattle.io_edge.specs.Files.{file_named};
+ghost use Rattle.std.specs.Prelude.{◌≡◌, ◌≢◌, ◌≤◌, ◌<◌, ◌⊎◌, ℕ, List, [], Option, Ok, Err, true, false, length, IfErr, IfSome, IsErr, IsNone, IsTrue, OnOk};
+ghost use Rattle.io_edge.specs.Files.{HasFile, file_named};
 ghost use Rattle.venue_words.specs.Causes.{HasCause, Rose};
 ghost use Rattle.venue_words.specs.Conditions.{IsConfig};
 ghost use Rattle.venue_words.specs.declared.config.Config.{Config};
@@ -8,7 +8,7 @@ ghost use Rattle.line_reader.specs.declared.config_file.ConfigFault.{ConfigFault
 ghost use Rattle.line_reader.specs.declared.config_file.ConfigFault.TheVariants as config_fault;
 ghost use Rattle.listing_reader.specs.Fitting.{has_word_names};
 ghost use Rattle.audit_core.specs.declared.verdict.TheConstants.{MAX_LISTING_BYTES};
-ghost use Rattle.audit_core.specs.Audited.{HasConfig, IsConfigFault, IsListing, OfText};
+ghost use Rattle.audit_core.specs.Audited.{HasConfig, IsConfigFault, IsListing, LacksConfig, OfText, SaysConfig};
 ghost use Rattle.audit_core.specs.Differing.{DiffersAt, IsLongLine};
 ghost use Rattle.audit_core.specs.Names.{has_line_names};
 ghost use Rattle.audit_core.specs.Telling.{SaysOn};
@@ -75,6 +75,8 @@ fn tell_listing<H: Shelf, T: Table, L: Ledger>(
     ensures later { (H.faults shelf.old ≤ H.faults shelf.new) × (T.faults table.old ≤ T.faults table.new) }
     ensures fault { result ≡ Err AuditFault.ReadFault → Rose (H.faults shelf.old) (H.faults shelf.new) }
     ensures put_fault { result ≡ Err AuditFault.WriteFault → Rose (T.faults table.old) (T.faults table.new) }
+    ensures sure { IsTrue (H.sure shelf.old) →
+        IsTrue (H.sure shelf.new) × (HasFile (H.told shelf.old) name.now → result ≢ Err AuditFault.ReadFault) }
 {
     table.begin(config)?;
     let verdict = follow(alloc, config, shelf, name, table, steps)?;
@@ -106,6 +108,10 @@ pub fn tabulate<H: Shelf, T: Table, L: Ledger>(
         OfText all files.entry.listing.now (λ text.
         PutsBefore T.tells T.header config text line (T.output table.old) (T.output table.new))) }
 
+    // Unless the answer is that the config was not read, its file says one.
+    ensures read { IfSome (H.told shelf.old) (λ all. LacksConfig result ⊎ SaysConfig all files.entry.config.now) }
+    ensures early { LacksConfig result ⊎ (result ≡ Err AuditRefusal.SplitName) → table.new ≡ table.old }
+
     // Every other answer has its cause, and a beginning of the table was put.
     ensures stops { IfErr result (λ _. IfSome (H.told shelf.old) (λ all. (config : Config) → HasConfig all files.entry.config.now config →
         OfText all files.entry.listing.now (λ text. PutsSome T.tells T.header config text (T.output table.old) (T.output table.new)))) }
@@ -122,6 +128,11 @@ pub fn tabulate<H: Shelf, T: Table, L: Ledger>(
     ensures config_fault { result ≡ Err (AuditRefusal.Config config_fault.ReadFault) → Rose (H.faults shelf.old) (H.faults shelf.new) }
     ensures listing_fault { result ≡ Err (AuditRefusal.Listing AuditFault.ReadFault) → Rose (H.faults shelf.old) (H.faults shelf.new) }
     ensures put_fault { result ≡ Err (AuditRefusal.Listing AuditFault.WriteFault) → Rose (T.faults table.old) (T.faults table.new) }
+    ensures sure { IsTrue (H.sure shelf.old) → IsTrue (H.sure shelf.new) }
+    ensures sure_config { IsTrue (H.sure shelf.old) → HasFile (H.told shelf.old) files.entry.config.now →
+        result ≢ Err (AuditRefusal.Config config_fault.ReadFault) }
+    ensures sure_listing { IsTrue (H.sure shelf.old) → HasFile (H.told shelf.old) files.entry.listing.now →
+        result ≢ Err (AuditRefusal.Listing AuditFault.ReadFault) }
 {
     let config = match read_config(alloc, shelf, files.config, MAX_CONFIG_BYTES) {
         Ok(file) => file.config,

@@ -1,11 +1,11 @@
 -- What is told of the config that was read is told of every config that its file says.
-use Rattle.std.proofs.Common.{Option, IfSome, subst}
+use Rattle.std.proofs.Common.{Option, IfSome, refl, subst}
 use Rattle.io_edge.specs.Files.{Files, file_named}
 use Rattle.audit_core.specs.Audited.{IsListing, OfText}
 use Rattle.audit_core.specs.Differing.{DiffersAt}
-use Rattle.audit_core.proofs.Filing.{for_config}
+use Rattle.audit_core.proofs.Filing.{IsThere, config_read, config_refused, config_there, for_config}
 use Rattle.audit_tables.specs.Tables.{PutsBefore, PutsListing, PutsSome}
-use Rattle.audit_tables.proofs.Putting.{IsThere, config_there, listing_there, put_day, put_nothing}
+use Rattle.audit_tables.proofs.Putting.{listing_there, put_day, put_nothing}
 use Rattle.audit_tables.proofs.table.tabulate.Goals as goal
 
 pub returns-in-Err-clause-stops : goal.returns-in-Err-clause-stops
@@ -61,3 +61,22 @@ returns-in-Ok-tell_listing-clause-tells g c = λ line expected is.
     (subst (λ (told : Option Files). IfSome told (λ all. OfText all c.args.files.listing.now
     (λ text. PutsBefore g.T.Watch.tells g.T.Table.header c.in-Ok.file.config text line from to))) c.in-Ok.ensures.told
     (c.in-Ok-tell_listing.ensures.tells line expected (let e = is in cc)))
+
+pub returns-in-Err-clause-read : goal.returns-in-Err-clause-read
+returns-in-Err-clause-read g c =
+    config_refused (g.H.Shelf.told c.args.shelf.now) c.args.files.config.now c.in-Err.fault _ refl
+
+pub returns-then-not-has_word_names-clause-read : goal.returns-then-not-has_word_names-clause-read
+returns-then-not-has_word_names-clause-read g c =
+    config_read (g.H.Shelf.told c.args.shelf.now) c.args.files.config.now c.read_config.result c.in-Ok.file _ c.in-Ok.is c.read_config.ensures.missing
+    c.in-Ok.ensures.read
+
+pub returns-in-Ok-tell_listing-clause-read : goal.returns-in-Ok-tell_listing-clause-read
+returns-in-Ok-tell_listing-clause-read g c =
+    config_read (g.H.Shelf.told c.args.shelf.now) c.args.files.config.now c.read_config.result c.in-Ok.file _ c.in-Ok.is c.read_config.ensures.missing
+    c.in-Ok.ensures.read
+
+pub returns-clause-read : goal.returns-clause-read
+returns-clause-read g c =
+    config_read (g.H.Shelf.told c.args.shelf.now) c.args.files.config.now c.read_config.result c.in-Ok.file _ c.in-Ok.is c.read_config.ensures.missing
+    c.in-Ok.ensures.read
