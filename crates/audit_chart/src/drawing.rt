@@ -1,8 +1,16 @@
 //! The picture of a symbol's day by the files of its audit.
-ghost use Rattle.std.specs.Prelude.{◌≡◌, ◌≤◌, true};
+ghost use Rattle.std.specs.Prelude.{◌≡◌, ◌≢◌, ◌≤◌, ◌⊎◌, ℕ, List, Option, Ok, Err, true, false, IfOk, IfSome};
+ghost use Rattle.io_edge.specs.Files.{file_named};
+ghost use Rattle.venue_words.specs.Causes.{Rose};
 ghost use Rattle.venue_words.specs.Conditions.{IsConfig};
+ghost use Rattle.venue_words.specs.declared.config.Config.{Config};
+ghost use Rattle.line_reader.specs.declared.config_file.ConfigFault.{ConfigFault};
+ghost use Rattle.line_reader.specs.declared.config_file.ConfigFault.TheVariants as config_fault;
 ghost use Rattle.listing_reader.specs.Fitting.{has_word_names};
+ghost use Rattle.audit_core.specs.Audited.{HasConfig, HasListing, IsConfigFault, IsListing, LacksConfig, OfText, SaysConfig};
+ghost use Rattle.audit_core.specs.Differing.{DiffersAt};
 ghost use Rattle.audit_core.specs.Names.{has_line_names};
+ghost use Rattle.audit_chart.specs.Drawing.{IfPicture, IsListed};
 
 use crate::day::Day;
 use crate::picture::picture_of;
@@ -50,8 +58,15 @@ fn drawn_of<H: Shelf, L: Ledger>(
     requires config { IsConfig config.now }
     requires words { has_word_names config.now ≡ true }
     requires lines { has_line_names config.now ≡ true }
+    ensures picture { IfOk result (λ drawn. IfPicture drawn (IfSome (H.told shelf.old) (λ files.
+        IsListed files listing.now config.now))) }
+    ensures differs { (line : ℕ) (expected : Option (List ℕ)) → result ≡ Ok (Drawn.Differs line expected) →
+        IfSome (H.told shelf.old) (λ files. IfSome (file_named files listing.now) (λ text.
+        DiffersAt (IsListing config.now) text line expected)) }
     ensures told { H.told shelf.new ≡ H.told shelf.old }
     ensures later { H.faults shelf.old ≤ H.faults shelf.new }
+    ensures fault { result ≡ Err AuditFault.ReadFault → Rose (H.faults shelf.old) (H.faults shelf.new) }
+    ensures quiet { result ≢ Err AuditFault.WriteFault }
 {
     let Some(number) = symbol_named(config, symbol) else {
         return Ok(Drawn::NoSuchSymbol);
@@ -71,8 +86,27 @@ pub fn draw_day<H: Shelf, L: Ledger>(
     shelf: &mut H,
     steps: &mut Steps<L>,
 ) -> Result<Drawn, AuditRefusal>
+    // On a shelf that tells its files a picture is made only where the one file is the listing of the config in the other. With a line
+    // that differs it is none, and the line is the first with which it can be none.
+    ensures picture { IfOk result (λ drawn. IfPicture drawn (IfSome (H.told shelf.old) (λ all.
+        HasListing all files.entry.config.now files.entry.listing.now))) }
+    ensures differs { (line : ℕ) (expected : Option (List ℕ)) → result ≡ Ok (Drawn.Differs line expected) →
+        IfSome (H.told shelf.old) (λ all. (config : Config) → HasConfig all files.entry.config.now config →
+        OfText all files.entry.listing.now (λ text. DiffersAt (IsListing config) text line expected)) }
+
+    // Unless the answer is that the config was not read, its file says one.
+    ensures read { IfSome (H.told shelf.old) (λ all. LacksConfig result ⊎ SaysConfig all files.entry.config.now) }
+
+    // Every other answer has its cause.
+    ensures config { (fault : ConfigFault) → result ≡ Err (AuditRefusal.Config fault) → IfSome (H.told shelf.old) (λ all.
+        IsConfigFault all files.entry.config.now fault) }
+    ensures split { result ≡ Err AuditRefusal.SplitName → IfSome (H.told shelf.old) (λ all. (config : Config) →
+        HasConfig all files.entry.config.now config → (has_word_names config ≡ false) ⊎ (has_line_names config ≡ false)) }
+    ensures quiet { result ≢ Err (AuditRefusal.Listing AuditFault.WriteFault) }
     ensures told { H.told shelf.new ≡ H.told shelf.old }
     ensures later { H.faults shelf.old ≤ H.faults shelf.new }
+    ensures config_fault { result ≡ Err (AuditRefusal.Config config_fault.ReadFault) → Rose (H.faults shelf.old) (H.faults shelf.new) }
+    ensures listing_fault { result ≡ Err (AuditRefusal.Listing AuditFault.ReadFault) → Rose (H.faults shelf.old) (H.faults shelf.new) }
 {
     let config = match read_config(alloc, shelf, files.config, MAX_CONFIG_BYTES) {
         Ok(file) => file.config,
