@@ -1,6 +1,6 @@
 //! How the program ends.
-ghost use Rattle.std.specs.Prelude.{◌≡◌};
-ghost use Rattle.audit_telling.specs.Exits.{exit_code};
+ghost use Rattle.std.specs.Prelude.{◌≡◌, OnErr, OnOk};
+ghost use Rattle.audit_telling.specs.Exits.{IsExit, exit_code};
 
 use std::io;
 
@@ -51,7 +51,11 @@ impl Exit {
 }
 
 /// The exit, or a write fault where the text was not put.
-pub fn told(put: io::Result<()>, exit: Exit) -> Exit {
+pub fn told(put: io::Result<()>, exit: Exit) -> Exit
+    ensures done { OnOk put (result ≡ exit) }
+    ensures fault { OnErr put (result ≡ Exit.WriteFault) }
+    ensures ends { IsExit exit result }
+{
     match put {
         Ok(()) => exit,
         Err(_) => Exit::WriteFault,

@@ -1,4 +1,6 @@
 //! What is told of files that were not read to their ends.
+ghost use Rattle.audit_telling.specs.Exits.{IsExit, exit_of_config_fault, exit_of_fault, exit_of_feeds_refusal, exit_of_feeds_status, exit_of_refusal, exit_of_status};
+
 use crate::exit::{Exit, told};
 use audit_core::{AuditFault, AuditFiles, AuditRefusal};
 use audit_feeds::FeedsRefusal;
@@ -9,7 +11,9 @@ use script_text::{LimitCause, LineCause};
 use terminal_hints::Hint;
 
 /// Tells that a line is outside the grammar, and at a terminal what it should be.
-fn tell_bad_line(rt: &HostRuntime, file: &str, line: u32, cause: LineCause) -> Exit {
+fn tell_bad_line(rt: &HostRuntime, file: &str, line: u32, cause: LineCause) -> Exit
+    ensures { IsExit Exit.BadLine result }
+{
     let exit = told(
         eprintln!(rt; "pegaudit: {file}: line {line}: {cause}"),
         Exit::BadLine,
@@ -19,7 +23,9 @@ fn tell_bad_line(rt: &HostRuntime, file: &str, line: u32, cause: LineCause) -> E
 }
 
 /// Tells that a line would pass a limit, and at a terminal which.
-fn tell_limit_line(rt: &HostRuntime, file: &str, line: u32, which: LimitCause) -> Exit {
+fn tell_limit_line(rt: &HostRuntime, file: &str, line: u32, which: LimitCause) -> Exit
+    ensures { IsExit Exit.Limit result }
+{
     let exit = told(
         eprintln!(rt; "pegaudit: {file}: line {line}: limit {which}"),
         Exit::Limit,
@@ -29,7 +35,9 @@ fn tell_limit_line(rt: &HostRuntime, file: &str, line: u32, which: LimitCause) -
 }
 
 /// Tells that a script could not be read, and at a terminal why.
-pub fn tell_unread_script(rt: &HostRuntime, name: &str) -> Exit {
+pub fn tell_unread_script(rt: &HostRuntime, name: &str) -> Exit
+    ensures { IsExit Exit.ReadFault result }
+{
     let exit = told(
         eprintln!(rt; "pegaudit: {name}: could not be read"),
         Exit::ReadFault,
@@ -39,7 +47,9 @@ pub fn tell_unread_script(rt: &HostRuntime, name: &str) -> Exit {
 }
 
 /// Tells how the explaining of a script ended.
-pub fn tell_explained(rt: &HostRuntime, name: &str, status: Status) -> Exit {
+pub fn tell_explained(rt: &HostRuntime, name: &str, status: Status) -> Exit
+    ensures { IsExit (exit_of_status status) result }
+{
     match status {
         Status::Done => Exit::Done,
         Status::BadWords => Exit::BadWords,
@@ -52,7 +62,9 @@ pub fn tell_explained(rt: &HostRuntime, name: &str, status: Status) -> Exit {
 }
 
 /// Tells that one of the files could not be read, and at a terminal why.
-fn tell_unread(rt: &HostRuntime, files: AuditFiles<'_>, name: &str) -> Exit {
+fn tell_unread(rt: &HostRuntime, files: AuditFiles<'_>, name: &str) -> Exit
+    ensures { IsExit Exit.ReadFault result }
+{
     let exit = told(
         eprintln!(rt; "pegaudit: {name}: could not be read"),
         Exit::ReadFault,
@@ -62,7 +74,9 @@ fn tell_unread(rt: &HostRuntime, files: AuditFiles<'_>, name: &str) -> Exit {
 }
 
 /// Tells why a config was not read.
-fn tell_config_fault(rt: &HostRuntime, files: AuditFiles<'_>, fault: ConfigFault) -> Exit {
+fn tell_config_fault(rt: &HostRuntime, files: AuditFiles<'_>, fault: ConfigFault) -> Exit
+    ensures { IsExit (exit_of_config_fault fault) result }
+{
     match fault {
         ConfigFault::Bad { line, cause } => tell_bad_line(rt, files.config, line, cause),
         ConfigFault::Limit { line, which } => tell_limit_line(rt, files.config, line, which),
@@ -72,7 +86,9 @@ fn tell_config_fault(rt: &HostRuntime, files: AuditFiles<'_>, fault: ConfigFault
 }
 
 /// Tells why a listing was not read to its end.
-fn tell_fault(rt: &HostRuntime, files: AuditFiles<'_>, fault: AuditFault) -> Exit {
+fn tell_fault(rt: &HostRuntime, files: AuditFiles<'_>, fault: AuditFault) -> Exit
+    ensures { IsExit (exit_of_fault fault) result }
+{
     let name = files.listing;
     match fault {
         AuditFault::ReadFault => tell_unread(rt, files, name),
@@ -90,7 +106,9 @@ fn tell_fault(rt: &HostRuntime, files: AuditFiles<'_>, fault: AuditFault) -> Exi
 }
 
 /// Tells why there is no verdict.
-pub fn tell_refusal(rt: &HostRuntime, files: AuditFiles<'_>, refusal: AuditRefusal) -> Exit {
+pub fn tell_refusal(rt: &HostRuntime, files: AuditFiles<'_>, refusal: AuditRefusal) -> Exit
+    ensures { IsExit (exit_of_refusal refusal) result }
+{
     match refusal {
         AuditRefusal::Config(fault) => tell_config_fault(rt, files, fault),
         AuditRefusal::SplitName => told(
@@ -115,7 +133,9 @@ fn tell_feeds_status(
     files: AuditFiles<'_>,
     feeds: &[&str],
     status: FeedsStatus,
-) -> Exit {
+) -> Exit
+    ensures { IsExit (exit_of_feeds_status status) result }
+{
     match status {
         FeedsStatus::BadFeed { file, line, cause } => {
             tell_bad_line(rt, file_of(files, feeds, file), line, cause)
@@ -146,7 +166,9 @@ pub fn tell_feeds_refusal(
     files: AuditFiles<'_>,
     feeds: &[&str],
     refusal: FeedsRefusal,
-) -> Exit {
+) -> Exit
+    ensures { IsExit (exit_of_feeds_refusal refusal) result }
+{
     match refusal {
         FeedsRefusal::Feeds(status) => tell_feeds_status(rt, files, feeds, status),
         FeedsRefusal::Audit(refusal) => tell_refusal(rt, files, refusal),

@@ -1,4 +1,6 @@
 //! What is told of an audit.
+ghost use Rattle.audit_telling.specs.Exits.{IsExit, exit_of_drawn, exit_of_feeds_verdict, exit_of_found, exit_of_verdict};
+
 use crate::exit::{Exit, told};
 use audit_chart::Drawn;
 use audit_core::{AuditFiles, Verdict};
@@ -16,7 +18,9 @@ fn put_expected(rt: &HostRuntime, expected: &Bytes) -> io::Result<()> {
 }
 
 /// Tells a verdict.
-pub fn tell_verdict(rt: &HostRuntime, files: AuditFiles<'_>, verdict: Verdict) -> Exit {
+pub fn tell_verdict(rt: &HostRuntime, files: AuditFiles<'_>, verdict: Verdict) -> Exit
+    ensures { IsExit (exit_of_verdict verdict) result }
+{
     let listing = files.listing;
     match verdict {
         Verdict::Same => told(println!(rt; "{listing}: same"), Exit::Done),
@@ -34,12 +38,16 @@ pub fn tell_verdict(rt: &HostRuntime, files: AuditFiles<'_>, verdict: Verdict) -
 }
 
 /// Tells where journals are not what the feeds ask.
-fn tell_departures(rt: &HostRuntime, departures: &Bytes) -> Exit {
+fn tell_departures(rt: &HostRuntime, departures: &Bytes) -> Exit
+    ensures { IsExit Exit.Differs result }
+{
     told(rt.stdout().write_all(departures.as_slice()), Exit::Differs)
 }
 
 /// Tells a verdict on a listing and its feeds.
-pub fn tell_feeds_verdict(rt: &HostRuntime, files: AuditFiles<'_>, verdict: FeedsVerdict) -> Exit {
+pub fn tell_feeds_verdict(rt: &HostRuntime, files: AuditFiles<'_>, verdict: FeedsVerdict) -> Exit
+    ensures { IsExit (exit_of_feeds_verdict verdict) result }
+{
     match verdict {
         FeedsVerdict::Same => tell_verdict(rt, files, Verdict::Same),
         FeedsVerdict::Differs { line, expected } => {
@@ -50,7 +58,9 @@ pub fn tell_feeds_verdict(rt: &HostRuntime, files: AuditFiles<'_>, verdict: Feed
 }
 
 /// Tells the verdict beside a table.
-pub fn tell_tabled(rt: &HostRuntime, files: AuditFiles<'_>, verdict: Verdict) -> Exit {
+pub fn tell_tabled(rt: &HostRuntime, files: AuditFiles<'_>, verdict: Verdict) -> Exit
+    ensures { IsExit (exit_of_verdict verdict) result }
+{
     let listing = files.listing;
     match verdict {
         Verdict::Same => Exit::Done,
@@ -62,7 +72,9 @@ pub fn tell_tabled(rt: &HostRuntime, files: AuditFiles<'_>, verdict: Verdict) ->
 }
 
 /// Puts a picture, or tells why there is none.
-pub fn tell_chart(rt: &HostRuntime, files: AuditFiles<'_>, symbol: &str, drawn: Drawn) -> Exit {
+pub fn tell_chart(rt: &HostRuntime, files: AuditFiles<'_>, symbol: &str, drawn: Drawn) -> Exit
+    ensures { IsExit (exit_of_drawn drawn) result }
+{
     match drawn {
         Drawn::Picture(picture) => told(rt.stdout().write_all(picture.as_slice()), Exit::Done),
         Drawn::Differs { line, .. } => told(
@@ -77,7 +89,9 @@ pub fn tell_chart(rt: &HostRuntime, files: AuditFiles<'_>, symbol: &str, drawn: 
 }
 
 /// Tells that EVENT is no number of an event.
-pub fn tell_bad_event(rt: &HostRuntime) -> Exit {
+pub fn tell_bad_event(rt: &HostRuntime) -> Exit
+    ensures { IsExit Exit.BadWords result }
+{
     told(
         eprintln!(rt; "pegaudit: EVENT is a number from 1 to 4294967295"),
         Exit::BadWords,
@@ -85,7 +99,9 @@ pub fn tell_bad_event(rt: &HostRuntime) -> Exit {
 }
 
 /// Tells that there are too many feeds.
-pub fn tell_many_feeds(rt: &HostRuntime) -> Exit {
+pub fn tell_many_feeds(rt: &HostRuntime) -> Exit
+    ensures { IsExit Exit.BadWords result }
+{
     told(eprintln!(rt; "pegaudit: at most 64 feeds"), Exit::BadWords)
 }
 
@@ -96,7 +112,9 @@ pub fn tell_found(
     symbol: &str,
     event: u32,
     found: Found,
-) -> Exit {
+) -> Exit
+    ensures { IsExit (exit_of_found found) result }
+{
     match found {
         Found::All => Exit::Done,
         Found::NoSymbol => told(
