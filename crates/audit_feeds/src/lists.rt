@@ -1,5 +1,5 @@
 //! What the feeds of a config ask.
-ghost use Rattle.std.specs.Prelude.{◌≡◌, ◌≢◌, ◌≤◌, ℕ, List, Err, map, length, IfErr, IfOk, IfSome, IsTrue};
+ghost use Rattle.std.specs.Prelude.{◌≡◌, ◌≢◌, ◌≤◌, ◌⊎◌, ℕ, List, None, Err, map, length, IfErr, IfOk, IfSome, IsTrue};
 ghost use Rattle.venue_words.specs.Causes.{Rose};
 ghost use Rattle.venue_words.specs.declared.limits.TheConstants.{MAX_CONFIG_BYTES, MAX_FEEDS};
 ghost use Rattle.line_reader.specs.ConfigFile.{Answer, config_file};
@@ -21,6 +21,7 @@ use std::thread::Threads;
 fn status_of(refusal: ReadRefusal) -> FeedsStatus
     ensures why { (answer : Answer) (feeds : List (List ℕ)) → StopsFor answer feeds result }
     ensures fault { result ≡ FeedsStatus.ReadFault → refusal ≡ ReadRefusal.ReadFault }
+    ensures either { (result ≡ FeedsStatus.ReadFault) ⊎ (result ≡ FeedsStatus.NoMemory) }
 {
     match refusal {
         ReadRefusal::ReadFault => FeedsStatus::ReadFault,
@@ -44,6 +45,9 @@ pub fn read_lists<R: Threads + Sync, H: Shelf>(
     ensures why { IfErr result (λ status. IfSome (H.told shelf.old) (λ files.
         IfSome (named_texts files (record { config = config.now; feeds = map (λ feed. feed.now) feeds.now })) (λ texts.
         StopsFor (config_file MAX_CONFIG_BYTES texts.config) texts.feeds status))) }
+    ensures missing { IfSome (H.told shelf.old) (λ files.
+        named_texts files (record { config = config.now; feeds = map (λ feed. feed.now) feeds.now }) ≡ None →
+        (result ≡ Err FeedsStatus.ReadFault) ⊎ (result ≡ Err FeedsStatus.NoMemory)) }
     ensures told { H.told shelf.new ≡ H.told shelf.old }
     ensures later { H.faults shelf.old ≤ H.faults shelf.new }
     ensures fault { result ≡ Err FeedsStatus.ReadFault → Rose (H.faults shelf.old) (H.faults shelf.new) }
