@@ -1,5 +1,5 @@
 //! The picture of a symbol's day by the files of its audit.
-ghost use Rattle.std.specs.Prelude.{◌≡◌, ◌≢◌, ◌≤◌, ◌⊎◌, ℕ, List, Option, Ok, Err, true, false, IfOk, IfSome};
+ghost use Rattle.std.specs.Prelude.{◌≡◌, ◌≢◌, ◌≤◌, ◌⊎◌, ℕ, List, Option, Ok, Err, true, false, IfOk, IfSome, IsNone};
 ghost use Rattle.io_edge.specs.Files.{file_named};
 ghost use Rattle.venue_words.specs.Causes.{Rose};
 ghost use Rattle.venue_words.specs.Conditions.{IsConfig};
@@ -102,6 +102,8 @@ pub fn draw_day<H: Shelf, L: Ledger>(
         IsConfigFault all files.entry.config.now fault) }
     ensures split { result ≡ Err AuditRefusal.SplitName → IfSome (H.told shelf.old) (λ all. (config : Config) →
         HasConfig all files.entry.config.now config → (has_word_names config ≡ false) ⊎ (has_line_names config ≡ false)) }
+    ensures missing { IfSome (H.told shelf.old) (λ all. IsNone (file_named all files.entry.config.now) →
+        (result ≡ Err (AuditRefusal.Config config_fault.ReadFault)) ⊎ (result ≡ Err (AuditRefusal.Config config_fault.NoMemory))) }
     ensures quiet { result ≢ Err (AuditRefusal.Listing AuditFault.WriteFault) }
     ensures told { H.told shelf.new ≡ H.told shelf.old }
     ensures later { H.faults shelf.old ≤ H.faults shelf.new }

@@ -1,5 +1,6 @@
 //! An audit of a listing by its config and its feeds.
-ghost use Rattle.std.specs.Prelude.{◌≡◌, ◌≢◌, ◌≤◌, ◌⊎◌, ℕ, List, [], Option, None, Ok, Err, map, length, IfSome, IsTrue};
+ghost use Rattle.std.specs.Prelude.{◌≡◌, ◌≢◌, ◌≤◌, ◌⊎◌, ℕ, List, [], Option, None, Ok, Err, map, length, IfSome, IsErr, IsNone, IsTrue};
+ghost use Rattle.io_edge.specs.Files.{file_named};
 ghost use Rattle.venue_words.specs.Causes.{Rose};
 ghost use Rattle.venue_words.specs.declared.config.Config.{Config};
 ghost use Rattle.venue_words.specs.declared.limits.TheConstants.{MAX_CONFIG_BYTES, MAX_FEEDS};
@@ -106,6 +107,7 @@ pub fn audit_feeds<R: Threads + Sync, H: Shelf, L: Ledger>(
     ensures missing { IfSome (H.told shelf.old) (λ all.
         named_texts all (record { config = files.entry.config.now; feeds = map (λ feed. feed.now) feeds.now }) ≡ None →
         (result ≡ Err (FeedsRefusal.Feeds FeedsStatus.ReadFault)) ⊎ (result ≡ Err (FeedsRefusal.Feeds FeedsStatus.NoMemory))) }
+    ensures missing_listing { IfSome (H.told shelf.old) (λ all. IsNone (file_named all files.entry.listing.now) → IsErr result) }
     ensures audit { (refusal : AuditRefusal) → result ≡ Err (FeedsRefusal.Audit refusal) → IfSome (H.told shelf.old) (λ all.
         IsAuditCause all files.entry.config.now files.entry.listing.now refusal) }
     ensures told { H.told shelf.new ≡ H.told shelf.old }

@@ -1,6 +1,7 @@
 //! An audit that tells where journals are not what feeds ask.
-ghost use Rattle.std.specs.Prelude.{◌≡◌, ◌≢◌, ◌≤◌, ◌<◌, ◌⊎◌, ℕ, List, [], Option, Some, Ok, Err, IfErr, IfOk, IfSome, length};
+ghost use Rattle.std.specs.Prelude.{◌≡◌, ◌≢◌, ◌≤◌, ◌<◌, ◌⊎◌, ℕ, List, [], Option, Some, Ok, Err, IfErr, IfOk, IfSome, IsErr, IsNone, length};
 ghost use Rattle.std.specs.declared.alloc.Global.{Global};
+ghost use Rattle.io_edge.specs.Files.{file_named};
 ghost use Rattle.venue_words.specs.Causes.{Rose};
 ghost use Rattle.venue_words.specs.declared.config.Config.{Config};
 ghost use Rattle.line_reader.specs.declared.config_file.ConfigFault.TheVariants as config_fault;
@@ -71,6 +72,7 @@ pub fn tell_departures<G: Given, H: Shelf, L: Ledger>(
         OfText all files.entry.listing.now (λ text. DiffersAt (IsListing config) text line expected))) }
     ensures why { IfErr result (λ refusal. IfSome (H.told shelf.old) (λ all.
         IsAuditCause all files.entry.config.now files.entry.listing.now refusal)) }
+    ensures missing_listing { IfSome (H.told shelf.old) (λ all. IsNone (file_named all files.entry.listing.now) → IsErr result) }
     ensures told { H.told shelf.new ≡ H.told shelf.old }
     ensures later { H.faults shelf.old ≤ H.faults shelf.new }
     ensures config_fault { result ≡ Err (AuditRefusal.Config config_fault.ReadFault) → Rose (H.faults shelf.old) (H.faults shelf.new) }

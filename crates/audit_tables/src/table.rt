@@ -123,6 +123,9 @@ pub fn tabulate<H: Shelf, T: Table, L: Ledger>(
         OfText all files.entry.listing.now (λ text. IsLongLine text line)) }
     ensures large { result ≡ Err (AuditRefusal.Listing AuditFault.TooLarge) → IfSome (H.told shelf.old) (λ all.
         OfText all files.entry.listing.now (λ text. MAX_LISTING_BYTES < length text)) }
+    ensures missing { IfSome (H.told shelf.old) (λ all. IsNone (file_named all files.entry.config.now) →
+        (result ≡ Err (AuditRefusal.Config config_fault.ReadFault)) ⊎ (result ≡ Err (AuditRefusal.Config config_fault.NoMemory))) }
+    ensures missing_listing { IfSome (H.told shelf.old) (λ all. IsNone (file_named all files.entry.listing.now) → IsErr result) }
     ensures told { H.told shelf.new ≡ H.told shelf.old }
     ensures later { (H.faults shelf.old ≤ H.faults shelf.new) × (T.faults table.old ≤ T.faults table.new) }
     ensures config_fault { result ≡ Err (AuditRefusal.Config config_fault.ReadFault) → Rose (H.faults shelf.old) (H.faults shelf.new) }
