@@ -147,7 +147,7 @@ impl DropDesk {
         ensures few { OnOk result (IsOver self.new.session ⊎ (length self.new.unread < MAX_FRAME_BYTES)) }
 
         // A connection that had ended takes nothing, and one for which memory was wanted has ended without a cause: the session
-        // is that of the piece's frames before, given up.
+        // worked the first frames of the piece, and gave up over the next one.
         ensures rests { IsOver self.old.session → IsOk result × (self.new ≡ self.old) }
         ensures gave_up { OnErr result (GaveUpOver moment self.old.session
             (reading_of (self.old.unread ++ piece.now)).frames self.new.session) }

@@ -1,5 +1,5 @@
 -- A connection that has ended takes nothing more.
-use Rattle.std.proofs.Common.{◌≡◌, ◌++◌, sym, ◌∙◌, ap, subst}
+use Rattle.std.proofs.Common.{◌≡◌, ◌++◌, sym, ◌∙◌, ap, subst, rules}
 use Rattle.fix_frames.specs.Reading.{reading_of}
 use Rattle.session_core.specs.Machine.{Machine, IsOver, sending}
 use Rattle.session_stream.specs.Work.{Work}
@@ -25,3 +25,6 @@ returns-then-is_over-clause-session c =
     let over : IsOver desk.session = subst (λ (m : Machine). IsOver m) (sym session) (c.is_over.ensures.0 c.if-is_over.true) in
     ap (λ (w : Work). w.session)
     (sym (over_reading (refuses c.args.moment) c.args.moment desk.session (reading_of (desk.unread ++ c.args.piece.now)) over))
+
+pub returns-clause-gave_up : goal.returns-clause-gave_up
+returns-clause-gave_up c = search rules
