@@ -1,5 +1,5 @@
 -- From the middle of a day's script to how the day ends.
-use Rattle.std.proofs.Common.{◌≡◌, ℕ, ◌+◌, ◌-◌, ◌≤◌, ◌<◌, nat_le, nat_lt, cond, get_or, Bool, true, false, List, [], ◌∷◌, ◌++◌, length, take, Option, Some, None, IfSome, is_some, Ok, Err, slice_get, refl, sym, ◌∙◌, ap, subst, append_assoc, append-nil, arith, length-append}
+use Rattle.std.proofs.Common.{◌≡◌, ℕ, ◌+◌, ◌-◌, ◌≤◌, ◌<◌, nat_le, nat_lt, cond, get_or, Bool, true, false, List, [], ◌∷◌, ◌++◌, length, take, Option, Some, None, IfSome, IsSome, is_some, Ok, Err, slice_get, refl, sym, ◌∙◌, ap, subst, append_assoc, append-nil, arith, length-append}
 use Rattle.std.proofs.lemmas.Bool.Decides.{nat_tests}
 use Rattle.std.proofs.lemmas.Option.{slice_get-get_or, slice_get_within}
 use Rattle.std.proofs.Math.Seq.{take-append-add}
@@ -48,12 +48,13 @@ pub record SourceOf (first left : Option (List ℕ)) (all : List ℕ) : Type 0 w
   pub told : IfSome first (λ bytes. all ++ rest ≡ bytes)
   pub ended : IsAtEnd left → rest ≡ []
   pub place : IfSome left (λ there. there ≡ rest)
+  pub still_told : IfSome first (λ _. IsSome left)
 
 source_of : (first left : Option (List ℕ)) (all : List ℕ) → Consumes first left all → SourceOf first left all
-source_of None None all x = record { rest = []; told = tt; ended = λ _. refl; place = tt }
-source_of None (Some rest) all x = record { rest = rest; told = tt; ended = λ e. e; place = refl }
+source_of None None all x = record { rest = []; told = tt; ended = λ _. refl; place = tt; still_told = tt }
+source_of None (Some rest) all x = record { rest = rest; told = tt; ended = λ e. e; place = refl; still_told = tt }
 source_of (Some bytes) None all x = absurd x
-source_of (Some bytes) (Some rest) all x = record { rest = rest; told = sym x; ended = λ e. e; place = refl }
+source_of (Some bytes) (Some rest) all x = record { rest = rest; told = sym x; ended = λ e. e; place = refl; still_told = refl }
 
 -- the same bytes
 same_told : (first : Option (List ℕ)) (bytes other : List ℕ) → bytes ≡ other → IfSome first (λ all. bytes ≡ all) → IfSome first (λ all. other ≡ all)
@@ -275,6 +276,7 @@ line_still at told first before left old t u reader next phase journal opened lo
       continued = λ honest. stored_still told journal (lines_of x.here.worked) (lines_of (line_bytes x.here.worked line more)) opened log then status
           same (front_at x.here.worked (line ++ 10 ∷ more) x.here.day.whole) (x.here.stands honest) (agrees more) stored;
       late = late;
+      still_told = source.still_told;
     }
 
 line_is_refused : {F D : Type 0} (at : F → ℕ → SymbolView) (told : D → Told) (first before left : Option (List ℕ)) (old t : Seen)
@@ -325,6 +327,7 @@ line_failed at told first before left old t u reader next phase journal opened l
                 (follows_more (lines ++ line ∷ []) all (ReadAs journal) (front_line x.here.worked line more x.here.day.whole x.handed.clear));
           };
       late = tt;
+      still_told = source.still_told;
     }
 
 -- the line's output was put in part
@@ -357,6 +360,7 @@ line_part at told first before left old t u reader next phase behind journal ope
                 (follows_more (lines ++ line ∷ []) all (ReadAs journal) (front_line x.here.worked line more x.here.day.whole x.handed.clear));
           };
       late = tt;
+      still_told = source.still_told;
     }
 
 pub line_ends : {F D : Type 0} (at : F → ℕ → SymbolView) (told : D → Told) (first before left : Option (List ℕ)) (old t u : Seen)
@@ -397,13 +401,13 @@ line_ends at told first before left old t u reader next phase behind journal ope
 file_still : {F D : Type 0} (at : F → ℕ → SymbolView) (told : D → Told) (first before left : Option (List ℕ)) (old t : Seen)
     (reader : Reading) (phase : Phase F) (journal : List (List ℕ)) (opened : Told) (log : LogView D) (more : List ℕ) (status : DayStatus)
     (x : AtLine at told first before old t reader phase journal opened log)
-    → IfSome first (λ bytes. x.worked ++ more ≡ bytes) → IsLate status
+    → IfSome first (λ bytes. x.worked ++ more ≡ bytes) → IfSome first (λ _. IsSome left) → IsLate status
     → (Appends old.told t.told (script x.worked).text → Output status old.told t.told x.worked)
     → Cause (x.worked ++ more) x.worked left status
     → (opened.honest ≡ true → Agrees journal (lines_of (x.worked ++ more)) (lines_of x.worked) status)
     → (Holds (kept journal (lines_of x.worked)) (told log.disk) → Stored journal (lines_of x.worked) (told log.disk) status)
     → RanFile first left journal opened (told log.disk) old t status
-file_still at told first before left old t reader phase journal opened log more status x source late output cause agrees stored = record {
+file_still at told first before left old t reader phase journal opened log more status x source told_still late output cause agrees stored = record {
   bytes = x.worked ++ more;
   told = source;
   given = x.worked;
@@ -411,6 +415,7 @@ file_still at told first before left old t reader phase journal opened log more 
   continued = λ honest. stored_still told journal (lines_of x.worked) (lines_of (x.worked ++ more)) opened log log status refl
       (front_at x.worked more x.day.whole) (x.stands honest) (agrees honest) stored;
   late = late;
+  still_told = told_still;
 }
 
 -- what was read before a failed read
@@ -434,7 +439,7 @@ cut_off at told first before left old t reader next phase journal opened log x h
     let cause = broken_off (x.worked ++ (next.held ++ source.rest)) x.worked next.held source.rest left
     (sym (append_assoc x.worked next.held source.rest)) (no_line next.held h.clear) source.place in
     file_still at told first before left old t reader phase journal opened log (next.held ++ source.rest) ReadFault x
-    (same_told first _ (x.worked ++ (next.held ++ source.rest)) (append_assoc x.worked next.held source.rest) source.told) tt (λ grew. grew) cause
+    (same_told first _ (x.worked ++ (next.held ++ source.rest)) (append_assoc x.worked next.held source.rest) source.told) source.still_told tt (λ grew. grew) cause
     (λ _. tt) (λ holds. holds)
 
 -- the journal has a line behind those of the script
@@ -472,7 +477,8 @@ pub end_differs : {F D : Type 0} (at : F → ℕ → SymbolView) (told : D → T
 end_differs at told first before left old t reader next phase journal opened log rest n had x h same test true_is =
     let number : n ≡ length (lines_of x.worked) + 1 = same ∙ ap (λ (k : ℕ). k + 1) (sym x.day.count) in
     file_still at told first before left old t reader phase journal opened log rest (Differs n) x
-    (all_told first left x.worked rest h.ended (taken_more first before left x.worked reader.held rest x.day.taken h.reads)) tt (λ grew. grew) number
+    (all_told first left x.worked rest h.ended (taken_more first before left x.worked reader.held rest x.day.taken h.reads))
+    (source_of first left (x.worked ++ rest) (taken_more first before left x.worked reader.held rest x.day.taken h.reads)).still_told tt (λ grew. grew) number
     (λ honest. had_there journal x.worked rest n x.day.whole (no_line rest h.clear) x.day.agrees number (is_had n journal had test true_is)) (λ holds. holds)
 
 -- all the journal's lines were met
@@ -494,22 +500,23 @@ all_taken journal worked more n whole x e less =
 end_so : {F D : Type 0} (at : F → ℕ → SymbolView) (told : D → Told) (first before left : Option (List ℕ)) (old t : Seen)
     (reader : Reading) (phase : Phase F) (journal : List (List ℕ)) (opened : Told) (log : LogView D) (rest : List ℕ) (n : ℕ) (why : Option LineFault)
     (x : AtLine at told first before old t reader phase journal opened log)
-    → IfSome first (λ bytes. x.worked ++ rest ≡ bytes) → n ≡ length (lines_of x.worked) + 1 → length journal < n
+    → IfSome first (λ bytes. x.worked ++ rest ≡ bytes) → IfSome first (λ _. IsSome left) → n ≡ length (lines_of x.worked) + 1
+    → length journal < n
     → (why ≡ Some fault.NoMemory → ⊥) → (why ≡ None → rest ≡ [])
     → refusal (x.worked ++ rest) ≡ refusal_here (length (lines_of x.worked)) why
     → RanFile first left journal opened (told log.disk) old t (ended_by why)
-end_so at told first before left old t reader phase journal opened log rest n None x source number less wanted none e =
+end_so at told first before left old t reader phase journal opened log rest n None x source told_still number less wanted none e =
     let all : x.worked ++ rest ≡ x.worked = ap (λ (r : List ℕ). x.worked ++ r) (none refl) ∙ append-nil x.worked in
-    file_still at told first before left old t reader phase journal opened log rest Done x source tt (λ grew. grew) (sym all, e)
+    file_still at told first before left old t reader phase journal opened log rest Done x source told_still tt (λ grew. grew) (sym all, e)
     (λ honest. all_met journal x.worked rest n x.day.whole x.day.agrees number less)
     (λ holds. subst (λ (l : List (List ℕ)). Holds l (told log.disk)) (kept_past journal (lines_of x.worked) (omega (arith, number, less))) holds)
-end_so at told first before left old t reader phase journal opened log rest n (Some (fault.Bad line cause)) x source number less wanted none e =
-    file_still at told first before left old t reader phase journal opened log rest (BadLine line cause) x source tt (λ grew. grew) e
+end_so at told first before left old t reader phase journal opened log rest n (Some (fault.Bad line cause)) x source told_still number less wanted none e =
+    file_still at told first before left old t reader phase journal opened log rest (BadLine line cause) x source told_still tt (λ grew. grew) e
     (λ honest. all_taken journal x.worked rest n x.day.whole x.day.agrees number less) (λ holds. holds)
-end_so at told first before left old t reader phase journal opened log rest n (Some (fault.Limit line which)) x source number less wanted none e =
-    file_still at told first before left old t reader phase journal opened log rest (LimitLine line which) x source tt (λ grew. grew) e
+end_so at told first before left old t reader phase journal opened log rest n (Some (fault.Limit line which)) x source told_still number less wanted none e =
+    file_still at told first before left old t reader phase journal opened log rest (LimitLine line which) x source told_still tt (λ grew. grew) e
     (λ honest. all_taken journal x.worked rest n x.day.whole x.day.agrees number less) (λ holds. holds)
-end_so at told first before left old t reader phase journal opened log rest n (Some fault.NoMemory) x source number less wanted none e =
+end_so at told first before left old t reader phase journal opened log rest n (Some fault.NoMemory) x source told_still number less wanted none e =
     absurd (wanted refl)
 
 ends_none : (n : ℕ) (stage : Stage) (rest : List ℕ) → (end_of n stage rest).fault ≡ None → rest ≡ []
@@ -534,6 +541,7 @@ script_ends at told first before left old t reader next phase journal opened log
     let number : n ≡ length (lines_of x.worked) + 1 = same ∙ ap (λ (k : ℕ). k + 1) (sym x.day.count) in
     end_so at told first before left old t reader phase journal opened log rest n (end_at x.day.place rest).fault x
     (all_told first left x.worked rest h.ended (taken_more first before left x.worked reader.held rest x.day.taken h.reads))
+    (source_of first left (x.worked ++ rest) (taken_more first before left x.worked reader.held rest x.day.taken h.reads)).still_told
     number (is_not_had n journal had test false_is) (end_at_fault x.day.place rest) (end_none x.day.place rest)
     (refusal_at at first before old t reader phase journal x.worked rest x.day
     ∙ ap (λ (c : Cut). refusal_from x.day.place c.lines c.rest) (cut_whole rest h.clear)
@@ -555,7 +563,7 @@ long_limit at told first before left old t reader next phase journal opened log 
     let number : n ≡ length (lines_of x.worked) + 1 = same ∙ ap (λ (k : ℕ). k + 1) (sym x.day.count) in
     let place : x.day.place.lines + 1 ≡ n = ap (λ (k : ℕ). k + 1) (sym x.day.lines_are) ∙ sym same in
     file_still at told first before left old t reader phase journal opened log more (LimitLine n Line) x
-    (same_told first _ (x.worked ++ more) (append_assoc x.worked next.held source.rest) source.told) tt (λ grew. grew)
+    (same_told first _ (x.worked ++ more) (append_assoc x.worked next.held source.rest) source.told) source.still_told tt (λ grew. grew)
     (refusal_at at first before old t reader phase journal x.worked more x.day
     ∙ ap (λ (t : List ℕ). refusal_from x.day.place (cut t).lines (cut t).rest) long.whole
     ∙ refused_long x.day.place long.front long.behind long.clear long.long
@@ -594,7 +602,7 @@ long_differs at told first before left old t reader next phase journal opened lo
     ∙ ap (λ (t : List ℕ). lines ++ lines_of t) long.whole
     ∙ ap (λ (c : Cut). lines ++ c.lines) (cut_joined long.front long.behind long.clear) in
     file_still at told first before left old t reader phase journal opened log more (Differs n) x
-    (same_told first _ (x.worked ++ more) (append_assoc x.worked next.held source.rest) source.told) tt (λ grew. grew) number
+    (same_told first _ (x.worked ++ more) (append_assoc x.worked next.held source.rest) source.told) source.still_told tt (λ grew. grew) number
     (λ honest. record {
       before = before_at journal x.worked more n x.day.whole x.day.agrees number;
       there = λ y. long_other journal lines (get_or journal (length lines) []) long.front (cut long.behind).lines (cut long.behind).rest x.day.agrees other

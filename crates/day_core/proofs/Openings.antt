@@ -115,6 +115,10 @@ unworked bytes left t status output cause = record {
   steps = omega arith;
 }
 
+none_given : (files : Option Files) (given : List ℕ) → given ≡ [] → IfSome files (λ _. given ≡ [])
+none_given None given none = tt
+none_given (Some files) given none = none
+
 no_lines : lines_of [] ≡ []
 unfolding cut
 no_lines = refl
@@ -145,6 +149,7 @@ script_no_memory files name left journal opened t holds now = record {
   worked = unworked (the_script files (Some name)) left t NoMemory (λ grew. grew) tt;
   continued = λ honest. late_start journal (lines_of (the_script files (Some name))) opened NoMemory (holds honest) (now honest) tt (first_none opened);
   late = tt;
+  unopened = λ _ _. none_given files [] refl;
   missing = λ _. (tt, refl);
 }
 
@@ -168,6 +173,7 @@ script_not_begun files name left journal opened t holds now closed = record {
   continued = λ honest. late_start journal (lines_of (the_script files (Some name))) opened ReadFault (holds honest) (now honest) tt
       (kept_start journal opened (holds honest));
   late = tt;
+  unopened = λ _ _. none_given files [] refl;
   missing = λ _. (tt, refl);
 }
 
@@ -187,6 +193,13 @@ not_missing : (files : Option Files) (name : List ℕ) (left : Option (List ℕ)
 not_missing None name left x lacks = lacks
 not_missing (Some files) name left x lacks = some_none (file_named files name) x.0 lacks.1
 
+-- a file that was begun is open
+opened_there : (files : Option Files) (name : List ℕ) (left unread : Option (List ℕ)) (given : List ℕ) → Opens files name left
+    → IfSome left (λ _. IsSome unread) → IsNone unread → IfSome files (λ _. given ≡ [])
+opened_there None name left unread given x there none = tt
+opened_there (Some files) name None unread given x there none = absurd (none_some (file_named files name) (sym x.1) x.0)
+opened_there (Some files) name (Some all) unread given x there none = absurd (some_none unread there none)
+
 pub script_begun : (files : Option Files) (name : List ℕ) (left unread : Option (List ℕ)) (journal : List (List ℕ)) (opened now : Told)
     (old new : Seen) (status : DayStatus) → Opens files name left → RanFile left unread journal opened now old new status
     → RanScript files name unread journal opened now old new status
@@ -197,6 +210,7 @@ script_begun files name left unread journal opened now old new status x ran = re
   worked = ran.worked;
   continued = ran.continued;
   late = ran.late;
+  unopened = λ _ none. opened_there files name left unread ran.given x ran.still_told none;
   missing = λ lacks. absurd (not_missing files name left x lacks);
 }
 
@@ -280,6 +294,7 @@ files_not_opened files name left start now t status x =
           crash = weaker start now (ReadsAsOne start.may_leave) (Follows (lines_of bytes) start.may_leave) (x.crash honest) (λ file one. inl one);
         };
       };
+      unopened = λ _ _. none_given files [] refl;
       words = λ e. absurd (subst IsOpening e x.opening);
       missing = λ _. (opening_early status x.opening, refl);
     }
@@ -334,6 +349,7 @@ files_opened told files name left disk log journal now old new status x may ran 
     journal = λ honest. journaled journal (lines_of ran.bytes) (lines_of ran.given) (told disk) (told log.disk) now status
         (x.lines_are honest) (may honest) ran.late (ran.continued (x.honest ∙ honest));
   };
+  unopened = ran.unopened;
   words = λ e. absurd (subst IsLate e ran.late);
   missing = ran.missing;
 }
@@ -365,10 +381,12 @@ no_script (Some files) words e x =
 pub no_form : (files : Option Files) (words : List (List ℕ)) (left : Option (List ℕ)) (disk : Told) (t : Seen)
     → (disk.honest ≡ true → (file : List ℕ) → disk.left_since disk.moment file → disk.may_leave file)
     → files_of words ≡ None → Ends files words left disk disk t t BadWords
+unfolding untouched
 no_form files words left disk t now e = record {
   bytes = the_script files (script_named words);
   script = is_script files (script_named words);
   ran = untouched (the_script files (script_named words)) left disk t BadWords now (λ grew. grew) refl tt tt (first_none disk);
+  unopened = λ _ _. none_given files [] refl;
   bad_words = λ _. e;
   other_words = λ _. (inl refl, refl);
   missing = λ lacks. absurd (no_script files words e lacks);
@@ -376,10 +394,12 @@ no_form files words left disk t now e = record {
 
 pub no_memory : (files : Option Files) (words : List (List ℕ)) (left : Option (List ℕ)) (disk : Told) (t : Seen)
     → (disk.honest ≡ true → (file : List ℕ) → disk.left_since disk.moment file → disk.may_leave file) → Ends files words left disk disk t t NoMemory
+unfolding untouched
 no_memory files words left disk t now = record {
   bytes = the_script files (script_named words);
   script = is_script files (script_named words);
   ran = untouched (the_script files (script_named words)) left disk t NoMemory now (λ grew. grew) tt tt tt (first_none disk);
+  unopened = λ _ _. none_given files [] refl;
   bad_words = λ e. absurd (cc);
   other_words = λ _. (inr refl, refl);
   missing = λ _. (tt, refl);
@@ -390,3 +410,19 @@ pub words_without_form : (files : Option Files) (words : List (List ℕ)) (left 
     → (why ≡ word.BadWords → files_of words ≡ None) → Ends files words left disk disk t t (words_refused why)
 words_without_form files words left disk t word.BadWords now h = no_form files words left disk t now (h refl)
 words_without_form files words left disk t word.NoMemory now h = no_memory files words left disk t now
+
+-- the words have the form, and what they name was worked
+pub named_files : (files : Option Files) (words : List (List ℕ)) (named : DayFiles) (left : Option (List ℕ)) (begun ended : Told) (old new : Seen)
+    (status : DayStatus) → files_of words ≡ Some named → RanFiles files named.script left begun ended old new status
+    → Ends files words left begun ended old new status
+named_files files words named left begun ended old new status e ran =
+    let name : script_named words ≡ Some named.script = ap (λ (o : Option DayFiles). option_map (λ f. f.script) o) e in
+    record {
+      bytes = ran.bytes;
+      script = subst (λ (n : Option (List ℕ)). IsScript files n ran.bytes) (sym name) ran.script;
+      ran = ran.ran;
+      unopened = ran.unopened;
+      bad_words = λ bad. absurd (ran.words bad);
+      other_words = λ none. absurd (let both : Some named ≡ None = sym e ∙ none in cc);
+      missing = λ lacks. ran.missing (subst (λ (n : Option (List ℕ)). LacksScript files n) name lacks);
+    }

@@ -1,5 +1,5 @@
 -- What a day comes to: a script worked over a journal.
-use Rattle.std.specs.Prelude.{◌≡◌, ◌≤◌, ◌+◌, ◌⊎◌, ℕ, true, List, [], ◌++◌, length, take, Option, Some, None, IfSome, IsSome}
+use Rattle.std.specs.Prelude.{◌≡◌, ◌≤◌, ◌+◌, ◌⊎◌, ℕ, true, List, [], ◌++◌, length, take, Option, Some, None, IfSome, IsSome, IsNone}
 use Rattle.std.specs.Io.KnownBytes.{Appends}
 use Rattle.venue_words.specs.declared.limits.TheConstants.{MAX_DAY_BYTES}
 use Rattle.day_journal.specs.Disk.{Told, LeavesOnly}
@@ -77,6 +77,10 @@ pub record Journaled (lines worked : List (List ℕ)) (start now : Told) (status
   pub stored : Stored (reading start.seen).lines worked now status
   pub crash : LeavesOnly start now (Follows lines start.may_leave)
 
+-- where the script could not be opened no line was worked, over a shelf that tells its files
+abbrev pub NoneUnopened : Option Files → Option (List ℕ) → List ℕ → DayStatus → Type 0
+NoneUnopened files left given status = status ≡ ReadFault → IsNone left → IfSome files (λ _. given ≡ [])
+
 -- a script's bytes, of which this is left on the shelf, worked over the journal on a disk
 pub record Ran (bytes : List ℕ) (left : Option (List ℕ)) (begun ended : Told) (old new : Seen) (status : DayStatus) : Type 0 where
   pub given : List ℕ
@@ -98,6 +102,7 @@ pub record Ends (files : Option Files) (words : List (List ℕ)) (left : Option 
   pub bytes : List ℕ
   pub script : IsScript files (script_named words) bytes
   pub ran : Ran bytes left begun ended old new status
+  pub unopened : NoneUnopened files left ran.given status
   -- words of another form, and a script that is not there: nothing is put, and no step is counted
   pub bad_words : status ≡ BadWords → files_of words ≡ None
   pub other_words : files_of words ≡ None → ((status ≡ BadWords) ⊎ (status ≡ NoMemory)) × (new ≡ old)

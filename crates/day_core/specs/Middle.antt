@@ -1,5 +1,5 @@
 -- A day's script in the middle of its lines.
-use Rattle.std.specs.Prelude.{◌≡◌, ◌≤◌, ◌+◌, ℕ, true, false, Bool, List, [], ◌++◌, length, take, nat_lt, Option, Some, None, Ok, Err, IfSome}
+use Rattle.std.specs.Prelude.{◌≡◌, ◌≤◌, ◌+◌, ℕ, true, false, Bool, List, [], ◌++◌, length, take, nat_lt, Option, Some, None, Ok, Err, IfSome, IsSome}
 use Rattle.std.specs.Io.KnownBytes.{Appends, Consumes}
 use Rattle.io_edge.specs.Grows.{AppendsPrefix}
 use Rattle.venue_words.specs.Floors.{SymbolView}
@@ -115,3 +115,4 @@ pub record RanFile (first left : Option (List ℕ)) (journal : List (List ℕ)) 
   pub worked : Worked bytes given left old new status
   pub continued : opened.honest ≡ true → Continued journal (lines_of bytes) (lines_of given) opened now status
   pub late : IsLate status
+  pub still_told : IfSome first (λ _. IsSome left)

@@ -8,7 +8,7 @@ use Rattle.io_edge.specs.Files.{Files}
 use Rattle.replay_core.specs.Telling.{Seen}
 use Rattle.day_core.specs.Crashes.{Found, Holds}
 use Rattle.day_core.specs.DayFiles.{IsScript, LacksScript}
-use Rattle.day_core.specs.Days.{IsEarly, Ran, Worked, lines_of}
+use Rattle.day_core.specs.Days.{IsEarly, NoneUnopened, Ran, Worked, lines_of}
 use Rattle.day_core.specs.Keeping.{Continued}
 use Rattle.day_core.specs.Middle.{IsLate}
 use Rattle.day_core.specs.declared.status.DayStatus.{DayStatus}
@@ -49,6 +49,7 @@ pub record RanScript (files : Option Files) (name : List ℕ) (left : Option (Li
   pub worked : Worked bytes given left old new status
   pub continued : opened.honest ≡ true → Continued journal (lines_of bytes) (lines_of given) opened now status
   pub late : IsLate status
+  pub unopened : NoneUnopened files left given status
   pub missing : LacksScript files (Some name) → IsEarly status × (new ≡ old)
 
 -- what became of a script and its journal
@@ -56,5 +57,6 @@ pub record RanFiles (files : Option Files) (name : List ℕ) (left : Option (Lis
   pub bytes : List ℕ
   pub script : IsScript files (Some name) bytes
   pub ran : Ran bytes left begun ended old new status
+  pub unopened : NoneUnopened files left ran.given status
   pub words : status ≢ BadWords
   pub missing : LacksScript files (Some name) → IsEarly status × (new ≡ old)
