@@ -80,7 +80,7 @@ impl<E: Engine + Drop> Model for BookOver<E> {
 
 impl<E: Engine + Drop> BookOver<E> {
     ghost use Rattle.std.specs.Prelude.{◌≡◌, ℕ, ◌+◌, ◌<◌, ◌≤◌, ◌++◌, ◌∷◌, [], Some, None, true, length, slice_get};
-    ghost use Rattle.std.specs.Prelude.{OnOk, IfOk, IfErr};
+    ghost use Rattle.std.specs.Prelude.{Err, OnOk, IfOk, IfErr};
     ghost use Rattle.venue_words.specs.Conditions.{IsTick};
     ghost use Rattle.venue_words.specs.declared.limits.TheConstants.{MAX_EVENTS};
     ghost use Rattle.venue_words.specs.Journals.{IfFull};
@@ -265,6 +265,7 @@ impl<E: Engine + Drop> BookOver<E> {
         ensures room { IfOk result (λ room. IsRoomFor command.now room) }
         ensures below { OnOk result (length self.old.journal < self.old.limit) }
         ensures full { IfErr result (IfFull (λ found. (found ≡ length self.old.journal) × (found ≡ self.old.limit))) }
+        ensures at_limit { self.old.limit ≤ length self.old.journal → result ≡ Err (FloorRefusal.Full self.old.limit) }
     {
         if self.journal.len() >= self.limit as usize {
             return Err(FloorRefusal::Full { found: self.limit });

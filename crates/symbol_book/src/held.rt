@@ -1,5 +1,5 @@
 //! The book as a value that takes the commands of one symbol.
-ghost use Rattle.std.specs.Prelude.{◌≡◌, ◌+◌, ◌<◌, ◌≤◌, ◌++◌, ◌∷◌, [], true, length, IfOk, IfErr, OnErr};
+ghost use Rattle.std.specs.Prelude.{◌≡◌, ◌+◌, ◌<◌, ◌≤◌, ◌++◌, ◌∷◌, [], true, length, Err, IfOk, IfErr, OnErr};
 ghost use Rattle.venue_words.specs.Journals.{event, reports_of, IfFull};
 ghost use Rattle.symbol_book.specs.Commands.{takes_command};
 ghost use Rattle.symbol_book.specs.Setting.{book_setting, markets_in, reports_at, steps_at};
@@ -27,6 +27,7 @@ fn submit<E: Engine + Drop, L: Ledger>(
     ensures room { IfOk result (λ number. number ≤ book.old.limit) }
     ensures err { OnErr result (book.new.journal ≡ book.old.journal) }
     ensures full { IfErr result (IfFull (λ found. (found ≡ length book.old.journal) × (found ≡ book.old.limit))) }
+    ensures at_limit { book.old.limit ≤ length book.old.journal → result ≡ Err (FloorRefusal.Full book.old.limit) }
     ensures most { IfOk result (λ number. steps.new ≤ steps.old + steps_at
         (book_setting book.old) book.old.journal (event number feed moment command.now)) }
     ensures idle { OnErr result (steps.new ≡ steps.old) }

@@ -1,5 +1,5 @@
 //! A value that takes the commands of one symbol.
-ghost use Rattle.std.specs.Prelude.{◌≡◌, ℕ, ◌+◌, ◌<◌, ◌≤◌, Bool, true, Option, List, [], ◌∷◌, ◌++◌, length, IfOk, IfErr, OnErr, IfSome};
+ghost use Rattle.std.specs.Prelude.{◌≡◌, ℕ, ◌+◌, ◌<◌, ◌≤◌, Bool, true, Option, List, [], ◌∷◌, ◌++◌, length, Err, IfOk, IfErr, OnErr, IfSome};
 ghost use Rattle.venue_words.specs.Floors.{CostsNothing};
 ghost use Rattle.venue_words.specs.Journals.{event, StartsWith, reports_of, IfFull};
 ghost use Rattle.venue_words.specs.declared.command.Command.{Command};
@@ -52,9 +52,10 @@ pub trait Held {
         ensures journal { IfOk result (λ number. journal self.new ≡ journal self.old ++ event number feed moment command.now ∷ []) }
         ensures room { IfOk result (λ number. number ≤ limit self.old) }
 
-        // A refusal leaves the journal; `Full` comes where it holds its limit.
+        // A refusal leaves the journal; `Full` comes exactly where it holds its limit.
         ensures err { OnErr result (journal self.new ≡ journal self.old) }
         ensures full { IfErr result (IfFull (λ found. (found ≡ length (journal self.old)) × (found ≡ limit self.old))) }
+        ensures at_limit { limit self.old ≤ length (journal self.old) → result ≡ Err (FloorRefusal.Full (limit self.old)) }
 
         // The steps, where it is said how many an event may take.
         ensures steps { IfOk result (λ number. IfSome (step_limit (setting self.old) (journal self.old) (event number feed moment command.now))
