@@ -1,5 +1,5 @@
 //! The picture of a symbol's day by the files of its audit.
-ghost use Rattle.std.specs.Prelude.{◌≡◌, ◌≢◌, ◌≤◌, ◌⊎◌, ℕ, List, Option, Ok, Err, true, false, IfOk, IfSome, IsNone};
+ghost use Rattle.std.specs.Prelude.{◌≡◌, ◌≢◌, ◌≤◌, ◌<◌, ◌⊎◌, ℕ, List, Option, Ok, Err, true, false, IfOk, IfSome, IsNone, length};
 ghost use Rattle.io_edge.specs.Files.{file_named};
 ghost use Rattle.venue_words.specs.Causes.{Rose};
 ghost use Rattle.venue_words.specs.Conditions.{IsConfig};
@@ -8,7 +8,8 @@ ghost use Rattle.line_reader.specs.declared.config_file.ConfigFault.{ConfigFault
 ghost use Rattle.line_reader.specs.declared.config_file.ConfigFault.TheVariants as config_fault;
 ghost use Rattle.listing_reader.specs.Fitting.{has_word_names};
 ghost use Rattle.audit_core.specs.Audited.{HasConfig, HasListing, IsConfigFault, IsListing, LacksConfig, OfText, SaysConfig};
-ghost use Rattle.audit_core.specs.Differing.{DiffersAt};
+ghost use Rattle.audit_core.specs.Differing.{DiffersAt, IsLongLine};
+ghost use Rattle.audit_core.specs.declared.verdict.TheConstants.{MAX_LISTING_BYTES};
 ghost use Rattle.audit_core.specs.Names.{has_line_names};
 ghost use Rattle.audit_chart.specs.Drawing.{IfPicture, IsListed};
 
@@ -63,6 +64,10 @@ fn drawn_of<H: Shelf, L: Ledger>(
     ensures differs { (line : ℕ) (expected : Option (List ℕ)) → result ≡ Ok (Drawn.Differs line expected) →
         IfSome (H.told shelf.old) (λ files. IfSome (file_named files listing.now) (λ text.
         DiffersAt (IsListing config.now) text line expected)) }
+    ensures long { (line : ℕ) → result ≡ Err (AuditFault.LongLine line) →
+        IfSome (H.told shelf.old) (λ files. IfSome (file_named files listing.now) (λ text. IsLongLine text line)) }
+    ensures large { result ≡ Err AuditFault.TooLarge → IfSome (H.told shelf.old) (λ files.
+        IfSome (file_named files listing.now) (λ text. MAX_LISTING_BYTES < length text)) }
     ensures told { H.told shelf.new ≡ H.told shelf.old }
     ensures later { H.faults shelf.old ≤ H.faults shelf.new }
     ensures fault { result ≡ Err AuditFault.ReadFault → Rose (H.faults shelf.old) (H.faults shelf.new) }
@@ -102,6 +107,10 @@ pub fn draw_day<H: Shelf, L: Ledger>(
         IsConfigFault all files.entry.config.now fault) }
     ensures split { result ≡ Err AuditRefusal.SplitName → IfSome (H.told shelf.old) (λ all. (config : Config) →
         HasConfig all files.entry.config.now config → (has_word_names config ≡ false) ⊎ (has_line_names config ≡ false)) }
+    ensures long { (line : ℕ) → result ≡ Err (AuditRefusal.Listing (AuditFault.LongLine line)) → IfSome (H.told shelf.old) (λ all.
+        OfText all files.entry.listing.now (λ text. IsLongLine text line)) }
+    ensures large { result ≡ Err (AuditRefusal.Listing AuditFault.TooLarge) → IfSome (H.told shelf.old) (λ all.
+        OfText all files.entry.listing.now (λ text. MAX_LISTING_BYTES < length text)) }
     ensures missing { IfSome (H.told shelf.old) (λ all. IsNone (file_named all files.entry.config.now) →
         (result ≡ Err (AuditRefusal.Config config_fault.ReadFault)) ⊎ (result ≡ Err (AuditRefusal.Config config_fault.NoMemory))) }
     ensures quiet { result ≢ Err (AuditRefusal.Listing AuditFault.WriteFault) }
