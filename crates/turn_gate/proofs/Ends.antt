@@ -19,7 +19,7 @@ use Rattle.turn_gate.proofs.OneSeat.{only, only_at}
 use Rattle.turn_gate.proofs.Moves.{Rule, Agrees, Home}
 
 module _ {V : Type 0} (journal : V → List Event) (limit setting : V → ℕ) (made : V) where
-  pub begins : Rule journal limit setting made (opening (1 ∷ 0 ∷ 0 ∷ []) (None ∷ []) (opening_seat (limit made) (setting made)))
+  pub begins : Rule journal limit setting made (opening (1 ∷ 0 ∷ 0 ∷ 0 ∷ []) (None ∷ []) (opening_seat (limit made) (setting made)))
   begins =
       let first : SeatView = opening_seat (limit made) (setting made) in
       let own : Agrees journal limit setting made 1 0 [] first = record {
@@ -36,6 +36,7 @@ module _ {V : Type 0} (journal : V → List Event) (limit setting : V → ℕ) (
         next = 1;
         serving = 0;
         history = [];
+        sleepers = 0;
         words = refl;
         order = omega arith;
         fits = omega arith;

@@ -56,17 +56,18 @@ module _ {V : Type 0} (journal : V → List Event) (limit setting : V → ℕ) (
 
   -- the rule after a step of the seat `id`, which then has the view `new`
   pub moved : (s : State (Option V) SeatView) (r : Rule s) (id : ℕ) (old new : SeatView) → get_elem? s.views id ≡ maybe.some old
-      → (words : List ℕ) (homes : List (maybe.Option (Option V))) (next serving : ℕ) (history : List Event)
-      → words ≡ next ∷ serving ∷ length history ∷ [] → serving ≤ next → next < 2 ^ 64 → length history ≤ limit made
+      → (words : List ℕ) (homes : List (maybe.Option (Option V))) (next serving : ℕ) (history : List Event) (sleepers : ℕ)
+      → words ≡ next ∷ serving ∷ length history ∷ sleepers ∷ [] → serving ≤ next → next < 2 ^ 64 → length history ≤ limit made
       → Agrees next serving history new → ((j : ℕ) (other : SeatView) → j ≢ id → get_elem? s.views j ≡ maybe.some other → Agrees next serving history other)
       → HasOwnTicket s.views id new → HaveSeenInOrder (set s.views id new) → Home homes (set s.views id new) history ⊎ IsOut homes (set s.views id new)
       → new.part ≡ old.part → r.serving + (new.turns + new.joined_turns) ≡ serving + (old.turns + old.joined_turns)
       → EachNumberOnce (set s.views id new) (length history)
       → Rule record { words = words; homes = homes; views = set s.views id new }
-  moved s r id old new at words homes next serving history is order fits room own others ticket looks value part turns numbers = record {
+  moved s r id old new at words homes next serving history sleepers is order fits room own others ticket looks value part turns numbers = record {
     next = next;
     serving = serving;
     history = history;
+    sleepers = sleepers;
     words = is;
     order = order;
     fits = fits;
@@ -116,7 +117,7 @@ module _ {V : Type 0} (journal : V → List Event) (limit setting : V → ℕ) (
   pub unmoved : (s : State (Option V) SeatView) (r : Rule s) (id word : ℕ) (seat : SeatView) (taken : List (ℕ × Option V)) → get_elem? s.views id ≡ maybe.some seat → 0 < seat.part
       → Rule (stepped s word (get_or s.words word 0) id taken seat keeps)
   unmoved s r id word seat taken at part =
-      moved s r id seat seat at (set s.words word (get_or s.words word 0)) s.homes r.next r.serving r.history (set-get_or s.words word 0 ∙ r.words) r.order r.fits r.room
+      moved s r id seat seat at (set s.words word (get_or s.words word 0)) s.homes r.next r.serving r.history r.sleepers (set-get_or s.words word 0 ∙ r.words) r.order r.fits r.room
       (r.seats id seat at) (λ j other _. r.seats j other) (own_as_before s.views id seat seat r.tickets at refl)
       (order_as_before s.views id seat seat r.looks at refl refl part (λ none. none)) (value_stays s r id seat seat at refl refl)
       refl refl (once_set s.views id (length r.history) seat seat at refl r.numbers)

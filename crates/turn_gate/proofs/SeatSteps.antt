@@ -58,6 +58,7 @@ module _ {V : Type 0} (journal : V → List Event) (limit setting : V → ℕ) (
         next = r.next;
         serving = r.serving;
         history = r.history;
+        sleepers = r.sleepers;
         words = r.words;
         order = r.order;
         fits = r.fits;
@@ -149,6 +150,7 @@ module _ {V : Type 0} (journal : V → List Event) (limit setting : V → ℕ) (
         next = r.next;
         serving = r.serving;
         history = r.history;
+        sleepers = r.sleepers;
         words = r.words;
         order = r.order;
         fits = r.fits;

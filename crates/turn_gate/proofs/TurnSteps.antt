@@ -12,7 +12,7 @@ use Rattle.venue_words.specs.Journals.{StartsWith}
 use Rattle.venue_words.specs.declared.command.Event.{Event}
 use Rattle.turn_gate.specs.declared.view.SeatView.{SeatView}
 use Rattle.turn_gate.specs.Rule.{EachNumberOnce}
-use Rattle.turn_gate.specs.Steps.{SeatAndSlot, with_event, after_turn, journal_held, TakesEmptySlot, DrawsTicket, TakesTurn, RecordsEvent, PassesTurn}
+use Rattle.turn_gate.specs.Steps.{SeatAndSlot, with_event, after_turn, journal_held, TakesEmptySlot, DrawsTicket, TakesTurn, RecordsEvent, PassesTurn, MarksSleepers}
 use Rattle.turn_gate.proofs.Prefixes.{starts_more, starts_whole, starts_length, starts_trans}
 use Rattle.turn_gate.proofs.Merges.{increases_more, increases_push}
 use Rattle.turn_gate.proofs.OneSeat.{each_set, is_none, own_as_before, own_if_none, agrees_next, agrees_serving, agrees_history, order_as_before, order_ahead, once_set, once_more}
@@ -45,7 +45,7 @@ module _ {V : Type 0} (journal : V → List Event) (limit setting : V → ℕ) (
         keeps,
         tt,
         subst (λ b. Rule journal limit setting made (stepped s 0 (either b (old + 1) x) id me.1 new keeps)) (sym (eq-eqb x old hit))
-            (moved journal limit setting made s r id me.0 new at (set s.words 0 (old + 1)) s.homes (old + 1) r.serving r.history
+            (moved journal limit setting made s r id me.0 new at (set s.words 0 (old + 1)) s.homes (old + 1) r.serving r.history r.sleepers
             (ap (λ (ws : List ℕ). set ws 0 (old + 1)) r.words) (omega arith) small r.room own
             (λ j other _ at'. agrees_next (limit made) (setting made) r.next r.serving (old + 1) r.history other (omega arith) (r.seats j other at'))
             (λ t is j other apart at' is'. let e : x ≡ t = (cc) in let g = (r.seats j other at').ticket t is' in let b = g.1 in absurd (omega arith))
@@ -89,7 +89,7 @@ module _ {V : Type 0} (journal : V → List Event) (limit setting : V → ℕ) (
         new,
         takes 0 (Some home.value),
         ap (λ (hs : List (maybe.Option (Option V))). get_elem? hs 0) home.slot,
-        moved journal limit setting made s r id me.0 new at (set s.words 1 x) (set s.homes 0 maybe.none) r.next r.serving r.history
+        moved journal limit setting made s r id me.0 new at (set s.words 1 x) (set s.homes 0 maybe.none) r.next r.serving r.history r.sleepers
             (set-get_or s.words 1 0 ∙ r.words) r.order r.fits r.room own (λ j other _. r.seats j other)
             (own_as_before s.views id me.0 new r.tickets at refl)
             (order_as_before s.views id me.0 new r.looks at refl refl part (λ none. absurd (cc)))
@@ -139,7 +139,7 @@ module _ {V : Type 0} (journal : V → List Event) (limit setting : V → ℕ) (
         new,
         takes 0 None,
         ap (λ (hs : List (maybe.Option (Option V))). get_elem? hs 0) slot,
-        moved journal limit setting made s r id me.0 new at (set s.words 1 (get_or s.words 1 0)) (set s.homes 0 maybe.none) r.next r.serving r.history
+        moved journal limit setting made s r id me.0 new at (set s.words 1 (get_or s.words 1 0)) (set s.homes 0 maybe.none) r.next r.serving r.history r.sleepers
             (set-get_or s.words 1 0 ∙ r.words) r.order r.fits r.room own (λ j other _. r.seats j other)
             (own_as_before s.views id me.0 new r.tickets at refl)
             (order_as_before s.views id me.0 new r.looks at refl refl part (λ none. none))
@@ -180,8 +180,8 @@ module _ {V : Type 0} (journal : V → List Event) (limit setting : V → ℕ) (
         new,
         keeps,
         tt,
-        moved journal limit setting made s r id me.0 new at (set s.words 2 ((n + 1) % 2 ^ 64)) s.homes r.next r.serving J
-            (ap (λ (ws : List ℕ). set ws 2 ((n + 1) % 2 ^ 64)) r.words ∙ ap (λ (k : ℕ). r.next ∷ r.serving ∷ k ∷ []) N) r.order r.fits
+        moved journal limit setting made s r id me.0 new at (set s.words 2 ((n + 1) % 2 ^ 64)) s.homes r.next r.serving J r.sleepers
+            (ap (λ (ws : List ℕ). set ws 2 ((n + 1) % 2 ^ 64)) r.words ∙ ap (λ (k : ℕ). r.next ∷ r.serving ∷ k ∷ r.sleepers ∷ []) N) r.order r.fits
             (let l = a.knows_limit part in omega arith) own
             (λ j other apart at'. subst (λ (l : List Event). Agrees journal limit setting made r.next r.serving l other) (sym grown)
             (agrees_history (limit made) (setting made) r.next r.serving r.history (e ∷ []) other (others_wait journal limit setting made s r id me.0 at held.1 j other apart at') (r.seats j other at')))
@@ -224,7 +224,7 @@ module _ {V : Type 0} (journal : V → List Event) (limit setting : V → ℕ) (
         new,
         gives,
         tt,
-        moved journal limit setting made s r id me.0 new at (set s.words 1 (t + 1)) (put_back s.homes me.1) r.next (t + 1) r.history (ap (λ (ws : List ℕ). set ws 1 (t + 1)) r.words)
+        moved journal limit setting made s r id me.0 new at (set s.words 1 (t + 1)) (put_back s.homes me.1) r.next (t + 1) r.history r.sleepers (ap (λ (ws : List ℕ). set ws 1 (t + 1)) r.words)
             (let b = below.1 in omega arith) r.fits r.room own
             (λ j other apart at'. subst (λ (z : ℕ). Agrees journal limit setting made r.next z r.history other) (sym next_is)
             (agrees_serving (limit made) (setting made) r.next r.serving r.history other (others_wait journal limit setting made s r id me.0 at held.1 j other apart at') (r.seats j other at')))
@@ -241,3 +241,19 @@ module _ {V : Type 0} (journal : V → List Event) (limit setting : V → ℕ) (
             refl (omega arith) (once_set s.views id (length r.history) me.0 new at refl r.numbers),
         ap (λ (cs : List (ℕ × Option V)). (new, rest cs)) has,
       )
+
+  -- whatever is said of sleepers, all else stays
+  pub marks : (slots id : ℕ) (me : SeatAndSlot V) (mark : ℕ) → 0 < me.0.part
+      → Allows (Rule journal limit setting made) slots id me 3 (λ _. mark) (λ _. MarksSleepers (step slots 3 mark 0 maybe.none) me mark)
+  marks slots id me mark part s r len at _ = (
+    me.0,
+    keeps,
+    tt,
+    moved journal limit setting made s r id me.0 me.0 at (set s.words 3 mark) s.homes r.next r.serving r.history mark
+        (ap (λ (ws : List ℕ). set ws 3 mark) r.words) r.order r.fits r.room
+        (r.seats id me.0 at) (λ j other _. r.seats j other) (own_as_before s.views id me.0 me.0 r.tickets at refl)
+        (order_as_before s.views id me.0 me.0 r.looks at refl refl part (λ none. none))
+        (value_stays journal limit setting made s r id me.0 me.0 at refl refl)
+        refl refl (once_set s.views id (length r.history) me.0 me.0 at refl r.numbers),
+    refl,
+  )

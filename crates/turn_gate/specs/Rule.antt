@@ -1,6 +1,6 @@
 -- The rule of a gate: what holds of its words, its slot and its seats at every moment.
--- Word 0 is the next ticket, word 1 the ticket that is served, word 2 the length of the history. The one slot has
--- the value while no seat has the turn.
+-- Word 0 is the next ticket, word 1 the ticket that is served, word 2 the length of the history, and word 3 may be any number: it
+-- says whether somebody may sleep. The one slot has the value while no seat has the turn.
 use Rattle.std.specs.Prelude.{◌≡◌, ℕ, ◌+◌, ◌^◌, ◌<◌, ◌≤◌, true, false, cond, ◌⊎◌, List, [], ◌∷◌, length, sum_by, Option, None, Some}
 use mathlib.Core.Option as maybe
 use lib.ListN.{get_elem?}
@@ -109,8 +109,9 @@ module _ {V : Type 0} (journal_of : V → List Event) (limit_of setting_of : V �
     pub next : ℕ
     pub serving : ℕ
     pub history : List Event
+    pub sleepers : ℕ
     -- the words
-    pub words : state.words ≡ next ∷ serving ∷ length history ∷ []
+    pub words : state.words ≡ next ∷ serving ∷ length history ∷ sleepers ∷ []
     pub order : serving ≤ next
     pub fits : next < 2 ^ 64
     pub room : length history ≤ limit_of opening_value

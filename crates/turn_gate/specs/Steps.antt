@@ -70,6 +70,10 @@ module _ {V : Type 0} where
   abbrev pub PassesTurn : (V → List Event) → Step (Option V) → SeatAndSlot V → ℕ → SeatAndSlot V → Type 0
   PassesTurn journal step before found after = after ≡ (after_turn step.first (journal_held journal before.1) before.0, [])
 
+  -- nothing has changed for the seat
+  abbrev pub MarksSleepers : Step (Option V) → SeatAndSlot V → ℕ → SeatAndSlot V → Type 0
+  MarksSleepers step before found after = after ≡ before
+
   -- what the seat has seen begins with what it was told, and its own numbers increase there
   abbrev pub ComparesSeen : Step (Option V) → SeatAndSlot V → ℕ → SeatAndSlot V → Type 0
   ComparesSeen step before found after =

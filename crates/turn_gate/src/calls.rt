@@ -20,7 +20,7 @@ use venue_words::{Command, FloorRefusal, Held, Look, NoMemory, Steps};
 
 // The first seat lays the value into the slot, and passes the first turn.
 pub(crate) fn open<V: Held>(table: &GateTable<V>, seat: &mut TableSeat<V>, value: V)
-    requires table { (seat.old.table_id ≡ table.now.table_id) × (table.now.table_id.words ≡ 3) }
+    requires table { (seat.old.table_id ≡ table.now.table_id) × (table.now.table_id.words ≡ 4) }
     requires first { seat.old.me ≡ (opening_seat (V.limit value) (V.setting value), []) }
     requires empty { V.journal value ≡ [] }
     ensures table { (seat.new.table_id ≡ seat.old.table_id) × (seat.new.id ≡ seat.old.id) }
@@ -42,7 +42,7 @@ pub(crate) fn submit<V: Held, R: Wait, L: Ledger>(
     command: &Command,
     steps: &mut Steps<L>,
 ) -> Result<u32, FloorRefusal>
-    requires table { (seat.old.table_id ≡ table.now.table_id) × (table.now.table_id.words ≡ 3) }
+    requires table { (seat.old.table_id ≡ table.now.table_id) × (table.now.table_id.words ≡ 4) }
     requires at_rest { IsAtRest seat.old.me.0 × (seat.old.me.1 ≡ []) }
     requires takes { V.takes seat.old.me.0.setting command.now ≡ true }
     ensures table { (seat.new.table_id ≡ seat.old.table_id) × (seat.new.id ≡ seat.old.id) }
@@ -70,7 +70,7 @@ pub(crate) fn look<V: Held, R: Wait>(
     member: u32,
     from: u32,
 ) -> Result<Look, NoMemory>
-    requires table { (seat.old.table_id ≡ table.now.table_id) × (table.now.table_id.words ≡ 3) }
+    requires table { (seat.old.table_id ≡ table.now.table_id) × (table.now.table_id.words ≡ 4) }
     requires at_rest { IsAtRest seat.old.me.0 × (seat.old.me.1 ≡ []) }
     ensures table { (seat.new.table_id ≡ seat.old.table_id) × (seat.new.id ≡ seat.old.id) }
     ensures seen { (history : List Event) × (turn : ℕ) × StartsWith history seat.old.me.0.seen

@@ -44,7 +44,7 @@ impl<V: Held> Model for Gate<V> {
     ghost view = { λ gate.
         gate_id gate.table.shared.table_id (V.limit gate.table.shared.key) (V.setting gate.table.shared.key) };
 
-    ghost invariant = { λ gate. (gate.table.shared.table_id.words ≡ 3) × (gate.table.shared.table_id.slots ≡ 1) };
+    ghost invariant = { λ gate. (gate.table.shared.table_id.words ≡ 4) × (gate.table.shared.table_id.slots ≡ 1) };
 }
 
 impl<V: Held> Gate<V> {
@@ -62,7 +62,7 @@ impl<V: Held> Gate<V> {
         ensures part { IfOk result (λ made. made.1.part ≡ whole) }
         ensures err { IfErr result (λ refused. refused.0 ≡ value) }
     {
-        let made = Table::vacant(alloc, &[1, 0, 0], 1, &value);
+        let made = Table::vacant(alloc, &[1, 0, 0, 0], 1, &value);
         let Ok((table, mut seat)) = made else {
             return Err((value, NoMemory));
         };

@@ -1,6 +1,6 @@
 //! The rule of a gate's table, and the steps that keep it.
 ghost use Rattle.turn_gate.specs.Rule.{KeepsOneHistory, opening_seat, spent_seat};
-ghost use Rattle.turn_gate.specs.Steps.{TakesEmptySlot, DrawsTicket, TakesTurn, RecordsEvent, PassesTurn, ComparesSeen, without_part, split_off, joined_seat};
+ghost use Rattle.turn_gate.specs.Steps.{TakesEmptySlot, DrawsTicket, TakesTurn, RecordsEvent, PassesTurn, MarksSleepers, ComparesSeen, without_part, split_off, joined_seat};
 
 use crate::view::SeatView;
 use atomic_table::{Join, Play, Split, TableRule};
@@ -43,6 +43,12 @@ pub struct PassTurn;
 
 impl<V: Held> Play<Option<V>, SeatView> for PassTurn {
     ghost then = { PassesTurn V.journal };
+}
+
+pub struct MarkSleepers;
+
+impl<V> Play<Option<V>, SeatView> for MarkSleepers {
+    ghost then = { MarksSleepers };
 }
 
 pub struct CompareSeen;
