@@ -1,6 +1,6 @@
 -- How a file is read as a log of lines.
-use Rattle.std.specs.Prelude.{◌≡◌, ◌⊎◌, ℕ, zero, suc, ◌+◌, Bool, true, false, ◌&&◌, List, [], ◌∷◌, ◌++◌, length, take, drop, slice_index, if◌then◌else◌, ◌==◌, nat_le, nat_lt}
-use Rattle.std.specs.Int.{from_be_bytes, w32}
+use Rattle.std.specs.Prelude.{◌≡◌, ◌⊎◌, ℕ, zero, suc, ◌+◌, Bool, true, false, ◌&&◌, List, [], ◌∷◌, ◌++◌, length, take, drop, slice_index, if◌then◌else◌, ◌==◌, ◌≤◌, nat_le, nat_lt}
+use Rattle.std.specs.Int.{from_be_bytes, to_be_bytes, w32}
 use Rattle.venue_words.specs.declared.limits.TheConstants.{MAX_LINE_BYTES}
 
 -- the lines, and whether damage stands behind them
@@ -50,6 +50,23 @@ abbrev pub size_of : List (List ℕ) → ℕ
 size_of [] = 0
 size_of (line ∷ lines) = 5 + length line + size_of lines
 
+-- whole lines behind open gates, and a closed gate behind the last
+abbrev pub blocks : List (List ℕ) → List ℕ
+blocks [] = 0 ∷ []
+blocks (line ∷ lines) = 1 ∷ (to_be_bytes w32 (length line) ++ (line ++ blocks lines))
+
+-- a line that may be appended
+abbrev pub IsShortLine : List ℕ → Type 0
+IsShortLine line = length line ≤ MAX_LINE_BYTES
+
+-- the file has these lines, with all of some more or with none of them
+abbrev pub IsAllOrNone : List (List ℕ) → List (List ℕ) → List ℕ → Type 0
+IsAllOrNone lines more file = (reading file ≡ intact lines) ⊎ (reading file ≡ intact (lines ++ more))
+
 -- the file has these lines, with one more or without it
 abbrev pub IsBeforeOrAfter : List (List ℕ) → List ℕ → List ℕ → Type 0
 IsBeforeOrAfter lines line file = (reading file ≡ intact lines) ⊎ (reading file ≡ intact (lines ++ line ∷ []))
+
+-- the file reads so
+abbrev pub ReadsAs : Reading → List ℕ → Type 0
+ReadsAs found file = reading file ≡ found

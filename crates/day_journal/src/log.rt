@@ -1,10 +1,10 @@
 //! The journal.
-ghost use Rattle.std.specs.Prelude.{◌≡◌, ◌<◌, ◌≤◌, ◌+◌, ◌^◌, ◌++◌, [], ◌∷◌, ℕ, Bool, true, false, List, length, drop, IfOk, OnOk, IfErr, OnErr, MatchResult};
+ghost use Rattle.std.specs.Prelude.{◌≡◌, ◌<◌, ◌≤◌, ◌+◌, ◌^◌, ◌++◌, [], ◌∷◌, ℕ, Bool, true, false, List, All, length, drop, IfOk, OnOk, IfErr, OnErr, MatchResult};
 ghost use Rattle.std.specs.Int.{to_be_bytes, w32};
 ghost use Rattle.venue_words.specs.Causes.{Rose};
 ghost use Rattle.venue_words.specs.declared.limits.TheConstants.{MAX_LINE_BYTES};
 ghost use Rattle.day_journal.specs.Disk.{Told, Only, LeavesOnly, Unchanged};
-ghost use Rattle.day_journal.specs.Log.{Reading, intact, with_lines, read_all, reading, size_of, IsBeforeOrAfter};
+ghost use Rattle.day_journal.specs.Log.{Reading, intact, with_lines, read_all, reading, size_of, blocks, IsShortLine, IsAllOrNone, IsBeforeOrAfter, ReadsAs};
 ghost use Rattle.day_journal.specs.Refusals.{IfDamaged, IsNoDamage, ReadsAsOne};
 ghost use Rattle.day_journal.specs.Scanning.{Moves, ReadsOn};
 ghost use Rattle.day_journal.specs.LogView.{IsAtRest};
@@ -12,6 +12,7 @@ ghost use Rattle.day_journal.specs.declared.refusal.AppendRefusal.TheVariants.{D
 ghost use Rattle.day_journal.specs.declared.refusal.OpenRefusal.TheVariants.{DiskFault as OpenFault, NoMemory as OpenMemory};
 
 use crate::disk::{Disk, fill, write_through};
+use crate::grow::{grow_to, zero_bytes};
 use crate::refusal::{AppendRefusal, OpenRefusal};
 use crate::scan::{Stop, scan};
 use std::alloc::{AllocError, Global};
@@ -54,6 +55,22 @@ fn block_of(alloc: Global, line: &[u8]) -> Result<Vec<u8>, AllocError>
     Ok(block)
 }
 
+/// The lines with a gate before each, all open, and a closed gate behind the last.
+fn blocks_of(alloc: Global, lines: &[Bytes]) -> Result<Vec<u8>, AllocError>
+    requires { All IsShortLine lines.now }
+    ensures { IfOk result (λ bytes. bytes.items ≡ blocks lines.now) }
+{
+    let mut bytes = Vec::new(alloc);
+    for line in lines {
+        let text = line.as_slice();
+        bytes.push(1)?;
+        bytes.extend_from_slice(&(text.len() as u32).to_be_bytes())?;
+        bytes.extend_from_slice(text)?;
+    }
+    bytes.push(0)?;
+    Ok(bytes)
+}
+
 impl<D: Disk> Log<D> {
     /// Appends a line, which is on the disk when this answers `Ok`: it writes the line behind the last gate, with a closed
     /// gate behind it, and syncs; then it opens the gate before the line, and syncs again.
@@ -83,10 +100,82 @@ impl<D: Disk> Log<D> {
         ensures fault { IfErr result (λ e. e ≡ AppendFault → Rose (D.faults self.old.disk) (D.faults self.new.disk)) }
     {
         let block = block_of(self.alloc, line)?;
-        self.spent = true;
+        self.spent = true; // until the gate is open
         write_through(&mut self.disk, self.gate + 1, &block)?;
         write_through(&mut self.disk, self.gate, &[1])?;
         self.gate += 5 + line.len() as u64;
+        self.spent = false;
+        Ok(())
+    }
+
+    /// Appends lines, all of them or none: they are on the disk when this answers `Ok`. It writes them behind the last gate,
+    /// with open gates between them and a closed one behind, and syncs; then it opens the gate before the first, and syncs again.
+    ///
+    /// Want of memory leaves the log as it was. A fault of the disk leaves it spent: whether the lines are there is seen when
+    /// the file is opened again.
+    pub fn append_all(&mut self, lines: &[Bytes]) -> Result<(), AppendRefusal>
+        requires unspent { self.old.spent ≡ false }
+        requires room { self.old.size < 2 ^ 62 }
+        requires some { 0 < length lines.now }
+        requires short { All IsShortLine lines.now }
+
+        ensures ok { OnOk result ((self.new.spent ≡ false) × (self.new.size ≡ self.old.size + size_of lines.now)) }
+        ensures lines { (D.told self.old.disk).honest ≡ true → OnOk result
+            (reading (D.told self.new.disk).seen ≡ intact ((reading (D.told self.old.disk).seen).lines ++ lines.now)) }
+        ensures durable { (D.told self.old.disk).honest ≡ true → OnOk result
+            (Only (D.told self.new.disk).seen (D.told self.new.disk).may_leave) }
+
+        // A crash at any moment of the call leaves the lines from before it, with all of the new ones or with none.
+        ensures any_moment { (D.told self.old.disk).honest ≡ true → LeavesOnly (D.told self.old.disk) (D.told self.new.disk)
+            (IsAllOrNone (reading (D.told self.old.disk).seen).lines lines.now) }
+
+        ensures honest { (D.told self.new.disk).honest ≡ (D.told self.old.disk).honest }
+        ensures begun { (D.begun self.new.disk ≡ true) × (D.file_name self.new.disk ≡ D.file_name self.old.disk) }
+        ensures no_memory { IfErr result (λ e. e ≡ AppendMemory → self.new ≡ self.old) }
+        ensures spent { IfErr result (λ e. e ≡ AppendFault → self.new.spent ≡ true) }
+        ensures faults { D.faults self.old.disk ≤ D.faults self.new.disk }
+        ensures fault { IfErr result (λ e. e ≡ AppendFault → Rose (D.faults self.old.disk) (D.faults self.new.disk)) }
+    {
+        let bytes = blocks_of(self.alloc, lines)?;
+        let behind = &bytes[1..];
+        let first = self.gate;
+        self.spent = true; // until the first gate is open
+        write_through(&mut self.disk, first + 1, behind)?;
+        write_through(&mut self.disk, first, &[1])?;
+        self.gate = first + behind.len() as u64;
+        self.spent = false;
+        Ok(())
+    }
+
+    /// Sees that the file has room for lines that take so many bytes, with five more for each: it adds whole pieces of 64 MiB of
+    /// zero bytes, which read as a closed gate, at the file's end, and syncs. So a full disk is met here, and not at a later
+    /// append; and an append does not have to make the file longer.
+    ///
+    /// Out of memory leaves the log as it was. A fault of the disk leaves it spent, with the lines that it had.
+    pub fn reserve(&mut self, bytes: u64) -> Result<(), AppendRefusal>
+        requires unspent { self.old.spent ≡ false }
+        requires room { self.old.size + bytes < 2 ^ 62 }
+
+        ensures ok { OnOk result ((self.new.spent ≡ false) × (self.new.size ≡ self.old.size)) }
+        ensures reserved { (D.told self.old.disk).honest ≡ true → OnOk result (self.old.size + bytes ≤ length (D.told self.new.disk).seen) }
+        ensures lines { (D.told self.old.disk).honest ≡ true → reading (D.told self.new.disk).seen ≡ reading (D.told self.old.disk).seen }
+        ensures durable { (D.told self.old.disk).honest ≡ true → OnOk result
+            (Only (D.told self.new.disk).seen (D.told self.new.disk).may_leave) }
+
+        // A crash at any moment of the call leaves the lines that there were.
+        ensures any_moment { (D.told self.old.disk).honest ≡ true → LeavesOnly (D.told self.old.disk) (D.told self.new.disk)
+            (ReadsAs (reading (D.told self.old.disk).seen)) }
+
+        ensures honest { (D.told self.new.disk).honest ≡ (D.told self.old.disk).honest }
+        ensures begun { (D.begun self.new.disk ≡ true) × (D.file_name self.new.disk ≡ D.file_name self.old.disk) }
+        ensures no_memory { IfErr result (λ e. e ≡ AppendMemory → self.new ≡ self.old) }
+        ensures spent { IfErr result (λ e. e ≡ AppendFault → self.new.spent ≡ true) }
+        ensures faults { D.faults self.old.disk ≤ D.faults self.new.disk }
+        ensures fault { IfErr result (λ e. e ≡ AppendFault → Rose (D.faults self.old.disk) (D.faults self.new.disk)) }
+    {
+        let piece = zero_bytes(self.alloc, PIECE_AHEAD)?;
+        self.spent = true; // until the file is longer
+        grow_to(&mut self.disk, self.gate + bytes, &piece)?;
         self.spent = false;
         Ok(())
     }
@@ -115,6 +204,9 @@ impl<D: Disk> Log<D> {
 
 /// How much of the file is read at once.
 const PIECE: usize = 65_536;
+
+/// By how much the file is made longer at once.
+const PIECE_AHEAD: usize = 67_108_864;
 
 /// Room for a piece of the file.
 fn piece_room(alloc: Global) -> Result<Vec<u8>, AllocError>

@@ -1,3 +1,4 @@
 //! One module for each crate that is tried.
 mod edges;
+mod files;
 mod journals;

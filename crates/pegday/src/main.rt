@@ -25,15 +25,18 @@ const DIFFERS: &str =
 const DAMAGED: &str =
     "  the journal is cut off or was changed by something else: restore it, or begin a new one";
 
-/// Runs over the files and streams of the system.
-fn run<L: Ledger>(rt: &HostRuntime, words: &[String], blank: Blank) -> DayStatus
+const HELD: &str =
+    "  another program works over this journal: wait until it has ended, or end it, and start again";
+
+/// Runs over the files and streams of the system, and says whether another program holds the journal.
+fn run<L: Ledger>(rt: &HostRuntime, words: &[String], blank: Blank) -> (DayStatus, bool)
     requires { (blank.name ≡ L.name) × (blank.parts ≡ L.parts) × (L.parts ≡ 1) }
 {
     let mut shelf = FileShelf::new(rt);
     let mut out = StreamSink::new(rt.stdout());
     let mut err = StreamSink::new(rt.stderr());
     let mut steps: Steps<L> = Steps::start(blank);
-    let (status, _) = day(
+    let (status, disk) = day(
         rt.alloc(),
         words,
         &mut shelf,
@@ -42,11 +45,11 @@ fn run<L: Ledger>(rt: &HostRuntime, words: &[String], blank: Blank) -> DayStatus
         &mut err,
         &mut steps,
     );
-    status
+    (status, disk.is_held_elsewhere())
 }
 
 /// What a person is told of the status.
-fn hint_of(status: DayStatus, words: &[String]) -> Hint<'_> {
+fn hint_of(status: DayStatus, is_held: bool, words: &[String]) -> Hint<'_> {
     let file = word_at(words, 0);
     match status {
         DayStatus::Done | DayStatus::NoMemory => Hint::Nothing,
@@ -55,6 +58,7 @@ fn hint_of(status: DayStatus, words: &[String]) -> Hint<'_> {
         DayStatus::LimitLine { line, which } => Hint::LimitLine { file, line, which },
         DayStatus::Differs { .. } => Hint::Text(DIFFERS),
         DayStatus::Damaged { .. } => Hint::Text(DAMAGED),
+        DayStatus::DiskFault if is_held => Hint::Text(HELD),
         DayStatus::DiskFault | DayStatus::ReadFault => Hint::Unread(named(words)),
         DayStatus::WriteFault => Hint::Unwritten,
     }
@@ -63,8 +67,8 @@ fn hint_of(status: DayStatus, words: &[String]) -> Hint<'_> {
 fn main(rt: HostRuntime) -> ExitCode {
     let status = match arguments(&rt) {
         Ok(words) => {
-            let status = run::<Brand>(&rt, words.as_slice(), Blank::new(1));
-            hint_of(status, words.as_slice()).show(&rt);
+            let (status, is_held) = run::<Brand>(&rt, words.as_slice(), Blank::new(1));
+            hint_of(status, is_held, words.as_slice()).show(&rt);
             status
         }
         Err(fault) => refuse_words(fault, &mut StreamSink::new(rt.stderr())),
