@@ -15,18 +15,20 @@ use Rattle.member_gate.specs.declared.refusal.DeskRefusal.TheVariants as refusal
 use Rattle.member_gate.specs.Answering.{Submission}
 use Rattle.member_gate.specs.Desks.{DeskView}
 use Rattle.member_gate.specs.Submitting.{TookAll}
+use Rattle.script_text.specs.declared.body.Line.{Line}
+use Rattle.script_text.specs.declared.body.Line.TheVariants.{Moment, Quote, Piece, Open}
 use Rattle.script_text.specs.declared.fault.LineFault.{LineFault}
 use Rattle.script_text.specs.declared.fault.LineFault.TheVariants.{Limit, NoMemory}
 use Rattle.script_text.specs.declared.fault.LimitCause.TheVariants.{Events}
-use Rattle.line_work.specs.LineWork.{LineWork, work_of_text}
-use Rattle.line_work.specs.LineWorkLaws.{text_keeps_config}
-use Rattle.line_work.specs.Refusing.{TookPart, IsRefused, refusal_at, fault_at}
+use Rattle.line_work.specs.FeedState.{FeedState}
+use Rattle.line_work.specs.LineWork.{LineWork, work_of_line}
+use Rattle.line_work.specs.Refusing.{TookPart, refusal_at}
 use Rattle.line_work.specs.Standing.{AreDesks, WorkerView}
 use Rattle.line_work.specs.Standing as feed
 use Rattle.replay_core.specs.News.{row_at, asks, AreRows, KeepsDown, IsAsked}
 use Rattle.replay_core.specs.PlainFloor.{IsPlain, ShowsJournals}
 use Rattle.replay_core.specs.Playing.{Playing, members_in, members_of, reports_at}
-use Rattle.replay_core.specs.PlayLine.{Answer, play_line, answer_to, answer_to_work, recorded_by, behind_work, with_pulls}
+use Rattle.replay_core.specs.PlayLine.{Answer, play_read, answer_to, recorded_by, behind_work, with_pulls}
 use Rattle.replay_core.specs.Pulling.{pulled, pull_lines, after_pulls, lines_of_pulls, ShowsFronts}
 use Rattle.replay_core.specs.Recording.{Recorded, recorded}
 use Rattle.replay_core.specs.Stages.{AreSent, IsDeskOfMember, StandsFor, kept_of}
@@ -68,41 +70,31 @@ pub record Behind {F : Type 0} (at : F → ℕ → SymbolView) (worker : WorkerV
   pub each : length playing.journals ≡ length playing.feed.config.symbols
 
 -- a line was worked
-pub record Worked {F : Type 0} (at : F → ℕ → SymbolView) (limit : FloorMark → ℕ → List Event → Event → Option ℕ) (mark : FloorMark) (playing : Playing) (text : List ℕ) (worker : WorkerView) (old new : List ℕ) (before after : F × ℕ) (own : Option ℕ) : Type 0 where
+pub record Worked {F : Type 0} (at : F → ℕ → SymbolView) (limit : FloorMark → ℕ → List Event → Event → Option ℕ) (mark : FloorMark) (playing : Playing) (line : Line) (worker : WorkerView) (old new : List ℕ) (before after : F × ℕ) (own : Option ℕ) : Type 0 where
   pub work : LineWork
-  pub says : work_of_text playing.feed text ≡ Ok work
+  pub says : work_of_line playing.feed line ≡ work
   pub stands : feed.StandsFor worker work.state
   pub told : new ≡ old ++ work.text
   pub took : TookAll at limit mark 1 work.state.moment work.submissions before after
   pub down : AllZip (KeepsDown own) playing.feed.connections work.state.connections
 
-worked_as : {F : Type 0} (at : F → ℕ → SymbolView) (limit : FloorMark → ℕ → List Event → Event → Option ℕ) (mark : FloorMark) (playing : Playing) (text : List ℕ) (worker : WorkerView) (old new : List ℕ) (before after : F × ℕ) (own : Option ℕ) (read : Result LineWork LineFault)
-    → work_of_text playing.feed text ≡ read → IsOkAnd read (λ work. feed.StandsFor worker work.state)
-    → IsOkAnd read (λ work. new ≡ old ++ work.text)
-    → IsOkAnd read (λ work. TookAll at limit mark 1 work.state.moment work.submissions before after)
-    → IsOkAnd read (λ work. AllZip (KeepsDown own) playing.feed.connections work.state.connections)
-    → Worked at limit mark playing text worker old new before after own
-worked_as at limit mark playing text worker old new before after own (Ok work) e stands told took down =
-    record { work = work; says = e; stands = stands; told = told; took = took; down = down }
-worked_as at limit mark playing text worker old new before after own (Err fault) e stands told took down = absurd stands
-
-pub worked_so : {F : Type 0} (at : F → ℕ → SymbolView) (limit : FloorMark → ℕ → List Event → Event → Option ℕ) (mark : FloorMark) (playing : Playing) (text : List ℕ) (worker : WorkerView) (old new : List ℕ) (before after : F × ℕ) (own : Option ℕ)
-    → IsOkAnd (work_of_text playing.feed text) (λ work. feed.StandsFor worker work.state)
-    → IsOkAnd (work_of_text playing.feed text) (λ work. new ≡ old ++ work.text)
-    → IsOkAnd (work_of_text playing.feed text) (λ work. TookAll at limit mark 1 work.state.moment work.submissions before after)
-    → IsOkAnd (work_of_text playing.feed text) (λ work. AllZip (KeepsDown own) playing.feed.connections work.state.connections)
-    → Worked at limit mark playing text worker old new before after own
-worked_so at limit mark playing text worker old new before after own stands told took down =
-    worked_as at limit mark playing text worker old new before after own (work_of_text playing.feed text) refl stands told took down
+pub worked_so : {F : Type 0} (at : F → ℕ → SymbolView) (limit : FloorMark → ℕ → List Event → Event → Option ℕ) (mark : FloorMark) (playing : Playing) (line : Line) (worker : WorkerView) (old new : List ℕ) (before after : F × ℕ) (own : Option ℕ)
+    → feed.StandsFor worker (work_of_line playing.feed line).state
+    → new ≡ old ++ (work_of_line playing.feed line).text
+    → TookAll at limit mark 1 (work_of_line playing.feed line).state.moment (work_of_line playing.feed line).submissions before after
+    → AllZip (KeepsDown own) playing.feed.connections (work_of_line playing.feed line).state.connections
+    → Worked at limit mark playing line worker old new before after own
+worked_so at limit mark playing line worker old new before after own stands told took down =
+    record { work = work_of_line playing.feed line; says = refl; stands = stands; told = told; took = took; down = down }
 
 module _ {F : Type 0} (mark_of : F → FloorMark) (at : F → ℕ → SymbolView) (limit : FloorMark → ℕ → List Event → Event → Option ℕ) (state : F → ℕ → State) (mark : FloorMark) where
   -- the floor shows what the line's commands make of the journals
-  pub took_line : (worker next : WorkerView) (floor : F) (steps : ℕ) (after : F × ℕ) (fronts : List ℕ) (fault : Option LineFault) (own : Option ℕ) (playing : Playing) (text old new : List ℕ)
+  pub took_line : (worker next : WorkerView) (floor : F) (steps : ℕ) (after : F × ℕ) (fronts : List ℕ) (fault : Option LineFault) (own : Option ℕ) (playing : Playing) (line : Line) (old new : List ℕ)
       → IsConfig worker.config → IsPlain mark_of at limit state worker.config mark
       → StandsFor at (kept_of worker floor fronts fault) playing → next.config ≡ worker.config
-      → (w : Worked at limit mark playing text next old new (floor, steps) after own)
+      → (w : Worked at limit mark playing line next old new (floor, steps) after own)
       → Took at w.work.state.config (recorded_by playing w.work) steps after
-  took_line worker next floor steps after fronts fault own playing text old new is plain s same w =
+  took_line worker next floor steps after fronts fault own playing line old new is plain s same w =
       let mine : worker.config ≡ w.work.state.config = sym same ∙ w.stands.config in
       let ours : playing.feed.config ≡ w.work.state.config = sym s.feed.config ∙ mine in
       took_all mark_of at limit state w.work.state.config mark w.work.state.moment w.work.submissions playing.journals (floor, steps) after
@@ -135,15 +127,15 @@ module _ {F : Type 0} (mark_of : F → FloorMark) (at : F → ℕ → SymbolView
       }
 
   -- the player behind the line's own work, beside what is kept: who is to be asked
-  pub behind_worked : (worker next : WorkerView) (floor : F) (steps : ℕ) (after : F × ℕ) (fronts : List ℕ) (fault : Option LineFault) (own : Option ℕ) (playing : Playing) (text old new : List ℕ) (asked : List (List Bool))
+  pub behind_worked : (worker next : WorkerView) (floor : F) (steps : ℕ) (after : F × ℕ) (fronts : List ℕ) (fault : Option LineFault) (own : Option ℕ) (playing : Playing) (line : Line) (old new : List ℕ) (asked : List (List Bool))
       → IsPlain mark_of at limit state worker.config mark → mark_of floor ≡ mark → mark_of after.0 ≡ mark
       → StandsFor at (kept_of worker floor fronts fault) playing → AreDesks worker.config worker.desks → next.config ≡ worker.config
       → map (λ (d : DeskView). d.cursors) next.desks ≡ map (λ (d : DeskView). d.cursors) worker.desks
-      → (w : Worked at limit mark playing text next old new (floor, steps) after own)
+      → (w : Worked at limit mark playing line next old new (floor, steps) after own)
       → Took at w.work.state.config (recorded_by playing w.work) steps after
       → Notes at worker.config after.0 fronts own asked
       → Behind at next after.0 asked (behind_work playing w.work (recorded_by playing w.work))
-  behind_worked worker next floor steps after fronts fault own playing text old new asked plain mine behind s desks same cursors w took x =
+  behind_worked worker next floor steps after fronts fault own playing line old new asked plain mine behind s desks same cursors w took x =
       let shows : ShowsJournals at worker.config after.0 (recorded_by playing w.work).journals =
       subst (λ (k : Config). ShowsJournals at k after.0 (recorded_by playing w.work).journals) (sym w.stands.config ∙ same) took.shows in
       let sent = subst (λ (k : Config). AllZip (AreSent k playing.journals) worker.desks playing.cursors) (sym s.feed.config) s.cursors in
@@ -160,14 +152,13 @@ module _ {F : Type 0} (mark_of : F → FloorMark) (at : F → ℕ → SymbolView
         each = took.each;
       }
 
-play_ok : (n : ℕ) (playing : Playing) (text : List ℕ) (work : LineWork) → work_of_text playing.feed text ≡ Ok work
-    → play_line n playing text ≡ answer_to n playing work (recorded_by playing work)
-unfolding play_line
-play_ok n playing text work e = ap (answer_to_work n playing) e
+play_ok : (n : ℕ) (playing : Playing) (line : Line) (work : LineWork) → work_of_line playing.feed line ≡ work
+    → play_read n playing line ≡ answer_to n playing work (recorded_by playing work)
+play_ok n playing line work e = ap (λ (w : LineWork). answer_to n playing w (recorded_by playing w)) e
 
-pub play_steps : (n : ℕ) (playing : Playing) (text : List ℕ) (work : LineWork) → work_of_text playing.feed text ≡ Ok work
-    → (play_line n playing text).steps ≡ (recorded_by playing work).steps
-play_steps n playing text work e = ap (λ (a : Answer). a.steps) (play_ok n playing text work e)
+pub play_steps : (n : ℕ) (playing : Playing) (line : Line) (work : LineWork) → work_of_line playing.feed line ≡ work
+    → (play_read n playing line).steps ≡ (recorded_by playing work).steps
+play_steps n playing line work e = ap (λ (a : Answer). a.steps) (play_ok n playing line work e)
 
 room_answer : (n : ℕ) (playing : Playing) (work : LineWork) (recorded : Recorded) → recorded.is_full ≡ false
     → (answer_to n playing work recorded).result ≡ Ok (with_pulls (behind_work playing work recorded) work.text)
@@ -178,15 +169,15 @@ full_answer : (n : ℕ) (playing : Playing) (work : LineWork) (recorded : Record
 full_answer n playing work recorded e = rw e refl
 
 -- the output of a line whose commands found room
-pub line_told : (n : ℕ) (playing : Playing) (text old between new : List ℕ) (work : LineWork) → work_of_text playing.feed text ≡ Ok work
+pub line_told : (n : ℕ) (playing : Playing) (line : Line) (old between new : List ℕ) (work : LineWork) → work_of_line playing.feed line ≡ work
     → (recorded_by playing work).is_full ≡ false → old ≡ [] → between ≡ old ++ work.text
     → new ≡ between ++ lines_of_pulls (behind_work playing work (recorded_by playing work))
-    → (play_line n playing text).result ≡ Ok (after_pulls (behind_work playing work (recorded_by playing work)), new)
-line_told n playing text old between new work e room none told grew =
+    → (play_read n playing line).result ≡ Ok (after_pulls (behind_work playing work (recorded_by playing work)), new)
+line_told n playing line old between new work e room none told grew =
     let behind = behind_work playing work (recorded_by playing work) in
     let whole : work.text ++ lines_of_pulls behind ≡ new =
     ap (λ (xs : List ℕ). xs ++ lines_of_pulls behind) (sym (told ∙ ap (λ (xs : List ℕ). xs ++ work.text) none)) ∙ sym grew in
-    ap (λ (a : Answer). a.result) (play_ok n playing text work e) ∙ room_answer n playing work (recorded_by playing work) room
+    ap (λ (a : Answer). a.result) (play_ok n playing line work e) ∙ room_answer n playing work (recorded_by playing work) room
     ∙ ap (λ (xs : List ℕ). Ok (after_pulls behind, xs)) whole
 
 -- ---- what goes out
@@ -253,54 +244,35 @@ refusal_of {F} mark_of at limit state config mark moment subs stop journals befo
     }
 
 -- a refused line is refused so by the definitions, or memory was wanted, and it took no more steps than they say
-pub record RefusedLine (n : ℕ) (playing : Playing) (text : List ℕ) (fault : LineFault) (before after : ℕ) : Type 0 where
-  pub answer : (fault_at n fault ≡ NoMemory) ⊎ ((play_line n playing text).result ≡ Err (fault_at n fault))
-  pub steps : after ≤ before + (play_line n playing text).steps
+pub record RefusedLine (n : ℕ) (playing : Playing) (line : Line) (stop : DeskRefusal) (before after : ℕ) : Type 0 where
+  pub answer : (refusal_at n stop ≡ NoMemory) ⊎ ((play_read n playing line).result ≡ Err (refusal_at n stop))
+  pub steps : after ≤ before + (play_read n playing line).steps
 
-stopped_so : (n : ℕ) (playing : Playing) (text : List ℕ) (work : LineWork) (stop : DeskRefusal) (fault : LineFault) (before after : ℕ)
-    → work_of_text playing.feed text ≡ Ok work → fault ≡ refusal_at 1 stop
+stopped_so : (n : ℕ) (playing : Playing) (work : LineWork) (stop : DeskRefusal) (before after : ℕ)
     → Refusal work.state.config work.state.moment work.submissions playing.journals stop before after
-    → (fault_at n fault ≡ NoMemory) ⊎ ((play_line n playing text).result ≡ Err (fault_at n fault))
-stopped_so n playing text work (refusal.Full symbol found) fault before after e f x = rw f (inr (
-    ap (λ (a : Answer). a.result) (play_ok n playing text work e)
-    ∙ full_answer n playing work (recorded_by playing work) (x.full symbol found refl)))
-stopped_so n playing text work refusal.NoMemory fault before after e f x = inl (ap (fault_at n) f)
+    → (refusal_at n stop ≡ NoMemory) ⊎ ((answer_to n playing work (recorded_by playing work)).result ≡ Err (refusal_at n stop))
+stopped_so n playing work (refusal.Full symbol found) before after x =
+    inr (full_answer n playing work (recorded_by playing work) (x.full symbol found refl))
+stopped_so n playing work refusal.NoMemory before after x = inl refl
 
-unread_so : (n : ℕ) (playing : Playing) (text : List ℕ) (meant fault : LineFault) → work_of_text playing.feed text ≡ Err meant
-    → (fault ≡ NoMemory) ⊎ (fault ≡ meant)
-    → (fault_at n fault ≡ NoMemory) ⊎ ((play_line n playing text).result ≡ Err (fault_at n fault))
-unfolding play_line
-unread_so n playing text meant fault e (inl none) = inl (ap (fault_at n) none)
-unread_so n playing text meant fault e (inr so) =
-    inr (ap (λ (r : Result LineWork LineFault). (answer_to_work n playing r).result) e ∙ ap (λ (f : LineFault). Err (fault_at n f)) (sym so))
+line_keeps_config : (state : FeedState) (line : Line) → (work_of_line state line).state.config ≡ state.config
+line_keeps_config state (Moment moment) = refl
+line_keeps_config state (Quote symbol command) = refl
+line_keeps_config state (Piece number bytes) = refl
+line_keeps_config state (Open number) = refl
 
-module _ {F : Type 0} (mark_of : F → FloorMark) (at : F → ℕ → SymbolView) (limit : FloorMark → ℕ → List Event → Event → Option ℕ) (state : F → ℕ → State) (mark : FloorMark) where
-  refused_as : (worker : WorkerView) (floor : F) (steps : ℕ) (after : F × ℕ) (fronts : List ℕ) (at_fault : Option LineFault) (n : ℕ) (playing : Playing) (text : List ℕ) (fault : LineFault) (read : Result LineWork LineFault)
-      → IsConfig worker.config → IsPlain mark_of at limit state worker.config mark → StandsFor at (kept_of worker floor fronts at_fault) playing
-      → ((work : LineWork) → read ≡ Ok work → work.state.config ≡ playing.feed.config)
-      → work_of_text playing.feed text ≡ read → IsRefused at limit mark 1 fault read (floor, steps) after
-      → RefusedLine n playing text fault steps after.1
-  refused_as worker floor steps after fronts at_fault n playing text fault (Ok work) is plain s config e x =
-      let mine : worker.config ≡ work.state.config = s.feed.config ∙ sym (config work refl) in
-      let ours : playing.feed.config ≡ work.state.config = sym (config work refl) in
-      let y = refusal_of mark_of at limit state work.state.config mark work.state.moment work.submissions x.0 playing.journals (floor, steps) after
-      (subst (λ (k : Config). IsPlain mark_of at limit state k mark) mine plain)
-      (subst (λ (k : Config). length k.limits ≡ length k.symbols) mine is.limit_each)
-      (subst (λ (k : Config). length playing.journals ≡ length k.symbols) ours s.each)
-      (subst (λ (k : Config). ShowsJournals at k floor playing.journals) ours s.journals) x.2 in
-      let most = play_steps n playing text work e in
-      record {
-        answer = stopped_so n playing text work x.0 fault steps after.1 e x.1 y;
-        steps = omega (arith, most, y.steps);
-      }
-  refused_as worker floor steps after fronts at_fault n playing text fault (Err meant) is plain s config e x =
-      let same : after.1 ≡ steps = ap (λ (y : F × ℕ). y.1) x.1 in
-      record { answer = unread_so n playing text meant fault e x.0; steps = omega arith }
-
-  pub refused_line : (worker : WorkerView) (floor : F) (steps : ℕ) (after : F × ℕ) (fronts : List ℕ) (at_fault : Option LineFault) (n : ℕ) (playing : Playing) (text : List ℕ) (fault : LineFault)
-      → IsConfig worker.config → IsPlain mark_of at limit state worker.config mark → StandsFor at (kept_of worker floor fronts at_fault) playing
-      → IsRefused at limit mark 1 fault (work_of_text playing.feed text) (floor, steps) after
-      → RefusedLine n playing text fault steps after.1
-  refused_line worker floor steps after fronts at_fault n playing text fault is plain s x =
-      refused_as worker floor steps after fronts at_fault n playing text fault (work_of_text playing.feed text) is plain s
-      (text_keeps_config playing.feed text) refl x
+pub refused_line : {F : Type 0} (mark_of : F → FloorMark) (at : F → ℕ → SymbolView) (limit : FloorMark → ℕ → List Event → Event → Option ℕ) (state : F → ℕ → State) (mark : FloorMark)
+    (worker : WorkerView) (floor : F) (steps : ℕ) (after : F × ℕ) (fronts : List ℕ) (at_fault : Option LineFault) (n : ℕ) (playing : Playing) (line : Line) (stop : DeskRefusal)
+    → IsConfig worker.config → IsPlain mark_of at limit state worker.config mark → StandsFor at (kept_of worker floor fronts at_fault) playing
+    → TookPart at limit mark 1 (work_of_line playing.feed line).state.moment stop (work_of_line playing.feed line).submissions (floor, steps) after
+    → RefusedLine n playing line stop steps after.1
+refused_line mark_of at limit state mark worker floor steps after fronts at_fault n playing line stop is plain s x =
+    let work = work_of_line playing.feed line in
+    let ours : playing.feed.config ≡ work.state.config = sym (line_keeps_config playing.feed line) in
+    let mine : worker.config ≡ work.state.config = s.feed.config ∙ ours in
+    let y = refusal_of mark_of at limit state work.state.config mark work.state.moment work.submissions stop playing.journals (floor, steps) after
+    (subst (λ (k : Config). IsPlain mark_of at limit state k mark) mine plain)
+    (subst (λ (k : Config). length k.limits ≡ length k.symbols) mine is.limit_each)
+    (subst (λ (k : Config). length playing.journals ≡ length k.symbols) ours s.each)
+    (subst (λ (k : Config). ShowsJournals at k floor playing.journals) ours s.journals) x in
+    record { answer = stopped_so n playing work stop steps after.1 y; steps = y.steps }

@@ -1,9 +1,10 @@
 -- A line of a body: what it does, what goes out behind it, and why it is refused.
 use Rattle.std.specs.Prelude.{ℕ, List, ◌++◌, Result, Ok, Err, if◌then◌else◌}
+use Rattle.script_text.specs.declared.body.Line.{Line}
 use Rattle.script_text.specs.declared.fault.LineFault.{LineFault}
 use Rattle.script_text.specs.declared.fault.LineFault.TheVariants.{Limit}
 use Rattle.script_text.specs.declared.fault.LimitCause.TheVariants.{Events}
-use Rattle.line_work.specs.LineWork.{LineWork, work_of_text}
+use Rattle.line_work.specs.LineWork.{LineWork, work_of_line, work_of_text}
 use Rattle.line_work.specs.Refusing.{fault_at}
 use Rattle.replay_core.specs.Playing.{Playing}
 use Rattle.replay_core.specs.Pulling.{after_pulls, lines_of_pulls}
@@ -40,6 +41,11 @@ answer_to n playing work recorded =
           else Ok (with_pulls (behind_work playing work recorded) work.text);
       steps = recorded.steps;
     }
+
+-- the n-th line of a script, in its body, where this is what it says
+abbrev pub play_read : ℕ → Playing → Line → Answer
+play_read n playing line =
+    answer_to n playing (work_of_line playing.feed line) (recorded_by playing (work_of_line playing.feed line))
 
 abbrev pub answer_to_work : ℕ → Playing → Result LineWork LineFault → Answer
 answer_to_work n playing (Ok work) = answer_to n playing work (recorded_by playing work)

@@ -1,10 +1,12 @@
 //! The lines behind the header of a script, worked one after the other.
 ghost use Rattle.std.specs.Prelude.{List, ◌≡◌, ◌≤◌, ◌+◌, ◌++◌, [], Some, Err, IfOk, OnOk, IfErr, length};
+ghost use Rattle.script_text.specs.Body.{IsLineOf, read_of};
+ghost use Rattle.script_text.specs.Meets.{Meets};
 ghost use Rattle.venue_words.specs.Conditions.{IsConfig};
 ghost use Rattle.venue_words.specs.declared.limits.TheConstants.{MAX_LINE_BYTES};
 ghost use Rattle.script_text.specs.declared.fault.LineFault.{LineFault};
 ghost use Rattle.replay_core.specs.Meets.{MeetsInPlace};
-ghost use Rattle.replay_core.specs.PlayLine.{play_line};
+ghost use Rattle.replay_core.specs.PlayLine.{play_line, play_read};
 ghost use Rattle.replay_core.specs.Playing.{Playing, before_body};
 ghost use Rattle.replay_core.specs.Stages.{StandsFor};
 ghost use Rattle.replay_core.specs.Summary.{summary_of};
@@ -13,9 +15,9 @@ use crate::news::News;
 use crate::plain_floor::PlainFloor;
 use crate::pulling::pull_all;
 use crate::summary::Summary;
-use crate::working::work_text;
-use line_work::{LineWorker, fault_at};
-use script_text::LineFault;
+use crate::working::work_read;
+use line_work::{LineWorker, fault_at, refusal_at};
+use script_text::{Line, LineFault, read_line};
 use std::alloc::Global;
 use std::marker::Model;
 use std::sync::ledger::Ledger;
@@ -79,8 +81,43 @@ impl<F: PlainFloor> Player<F> {
         })
     }
 
-    /// Works a line, and gives its output.
+    /// Reads a line, without its LF, by the config of the header. Nothing is done. A fault is that of line 1.
+    pub fn read(&self, text: &[u8]) -> Result<Line, LineFault>
+        ensures line { Meets (read_of self.now.worker.config text.now) result }
+        ensures configured { IfOk result (IsLineOf self.now.worker.config) }
+    {
+        read_line(self.alloc, text, self.worker.config())
+    }
+
+    /// Works what a line says, and gives its output.
     fn play<L: Ledger>(
+        &mut self,
+        line: u32,
+        read: Line,
+        out: &mut Vec<u8>,
+        steps: &mut Steps<L>,
+    ) -> Result<(), LineFault>
+        requires read { IsLineOf self.old.worker.config read }
+        requires empty { out.old.items ≡ [] }
+        ensures answer { (playing : Playing) → StandsFor F.at self.old playing
+            → MeetsInPlace (StandsFor F.at) (play_read line playing read).result result self.new out.new.items }
+        ensures steps { (playing : Playing) → StandsFor F.at self.old playing
+            → steps.new ≤ steps.old + (play_read line playing read).steps }
+        ensures fault { self.new.fault ≡ self.old.fault }
+    {
+        let own = match work_read(&mut self.worker, &mut self.floor, read, out, steps) {
+            Ok(own) => own,
+            Err(refusal) => return Err(refusal_at(line, refusal)),
+        };
+        self.news.look(&self.floor, own);
+        match pull_all(&mut self.worker, &mut self.floor, &self.news, out) {
+            Ok(()) => Ok(()),
+            Err(_) => Err(LineFault::NoMemory),
+        }
+    }
+
+    /// Reads a line and works what it says, and gives its output.
+    fn play_text<L: Ledger>(
         &mut self,
         line: u32,
         text: &[u8],
@@ -94,21 +131,42 @@ impl<F: PlainFloor> Player<F> {
             → steps.new ≤ steps.old + (play_line line playing text.now).steps }
         ensures fault { self.new.fault ≡ self.old.fault }
     {
-        let own = match work_text(
-            self.alloc,
-            &mut self.worker,
-            &mut self.floor,
-            text,
-            out,
-            steps,
-        ) {
-            Ok(own) => own,
-            Err(fault) => return Err(fault_at(line, fault)),
-        };
-        self.news.look(&self.floor, own);
-        match pull_all(&mut self.worker, &mut self.floor, &self.news, out) {
+        match self.read(text) {
+            Ok(read) => self.play(line, read, out, steps),
+            Err(fault) => Err(fault_at(line, fault)),
+        }
+    }
+
+    /// Works what a line of this number says, which `read` gave, as `line` works its text.
+    pub fn work<L: Ledger>(
+        &mut self,
+        line: u32,
+        read: Line,
+        out: &mut Vec<u8>,
+        steps: &mut Steps<L>,
+    ) -> Result<(), LineFault>
+        requires read { IsLineOf self.old.worker.config read }
+        requires empty { out.old.items ≡ [] }
+        ensures answer { (playing : Playing) → StandsFor F.at self.old playing
+            → MeetsInPlace (StandsFor F.at) (play_read line playing read).result result self.new out.new.items }
+        ensures steps { (playing : Playing) → StandsFor F.at self.old playing
+            → steps.new ≤ steps.old + (play_read line playing read).steps }
+
+        // A fault is not forgotten.
+        ensures fault { IfErr result (λ fault. self.new.fault ≡ Some fault) }
+        ensures again { (fault : LineFault) → self.old.fault ≡ Some fault → result ≡ Err fault }
+        ensures quiet { (fault : LineFault) → self.old.fault ≡ Some fault
+            → (self.new ≡ self.old) × (out.new.items ≡ []) × (steps.new ≡ steps.old) }
+    {
+        if let Some(fault) = self.fault {
+            return Err(fault);
+        }
+        match self.play(line, read, out, steps) {
             Ok(()) => Ok(()),
-            Err(_) => Err(LineFault::NoMemory),
+            Err(stop) => {
+                self.fault = Some(stop);
+                Err(stop)
+            }
         }
     }
 
@@ -136,7 +194,7 @@ impl<F: PlainFloor> Player<F> {
         if let Some(fault) = self.fault {
             return Err(fault);
         }
-        match self.play(line, text, out, steps) {
+        match self.play_text(line, text, out, steps) {
             Ok(()) => Ok(()),
             Err(fault) => {
                 self.fault = Some(fault);

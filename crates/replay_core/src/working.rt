@@ -1,19 +1,20 @@
 //! A line's own work, and whose session may have come up at it.
-ghost use Rattle.std.specs.Prelude.{◌≡◌, ◌++◌, ℕ, Some, None, map, slice_get, IfOk, IfErr, OnOk, IsOkAnd};
+ghost use Rattle.std.specs.Prelude.{◌≡◌, ◌++◌, ℕ, Some, None, map, slice_get, IfOk, IfErr, OnOk};
 ghost use Rattle.std.specs.List.{AllZip};
 ghost use Rattle.venue_words.specs.Floors.{IsSetUpFor};
 ghost use Rattle.session_core.specs.Machine.{IsUp};
 ghost use Rattle.member_gate.specs.Desks.{DeskView};
 ghost use Rattle.member_gate.specs.Submitting.{TookAll};
+ghost use Rattle.script_text.specs.Body.{IsLineOf};
 ghost use Rattle.line_work.specs.FeedState.{FeedState};
-ghost use Rattle.line_work.specs.LineWork.{work_of_text};
-ghost use Rattle.line_work.specs.Refusing.{IsRefused};
+ghost use Rattle.line_work.specs.LineWork.{work_of_line};
+ghost use Rattle.line_work.specs.Refusing.{TookPart};
 ghost use Rattle.line_work.specs.Standing.{AreDesks, StandsFor};
 ghost use Rattle.replay_core.specs.News.{own_of, KeepsDown};
 
-use line_work::{LineWorker, refusal_at};
-use script_text::{Line, LineFault, read_line};
-use std::alloc::Global;
+use line_work::LineWorker;
+use member_gate::DeskRefusal;
+use script_text::Line;
 use std::sync::ledger::Ledger;
 use venue_words::{Floor, Steps};
 
@@ -32,30 +33,30 @@ fn own_of(worker: &LineWorker, line: &Line) -> Option<u32>
     }
 }
 
-/// Reads a line of a script, without its LF, and works it. It answers the member whose piece the line is, if it is one and his
-/// session was not up before it: no other session came up. A fault is that of line 1, and the worker stands at no line any more
-/// then.
-pub fn work_text<F: Floor, L: Ledger>(
-    alloc: Global,
+/// Works a line that was read for the worker's config. It answers the member whose piece the line is, if it is one and his
+/// session was not up before it: no other session came up. After a refusal the floor took the first of the line's commands, and
+/// the worker stands at no line any more.
+pub fn work_read<F: Floor, L: Ledger>(
     worker: &mut LineWorker,
     floor: &mut F,
-    text: &[u8],
+    line: Line,
     out: &mut Vec<u8>,
     steps: &mut Steps<L>,
-) -> Result<Option<u32>, LineFault>
-    requires { IsSetUpFor worker.old.config (F.mark floor.old).setup }
+) -> Result<Option<u32>, DeskRefusal>
+    requires line { IsLineOf worker.old.config line }
+    requires setup { IsSetUpFor worker.old.config (F.mark floor.old).setup }
     ensures stands { OnOk result ((state : FeedState) → StandsFor worker.old state
-        → IsOkAnd (work_of_text state text.now) (λ work. StandsFor worker.new work.state)) }
+        → StandsFor worker.new (work_of_line state line).state) }
     ensures text { OnOk result ((state : FeedState) → StandsFor worker.old state
-        → IsOkAnd (work_of_text state text.now) (λ work. out.new.items ≡ out.old.items ++ work.text)) }
+        → out.new.items ≡ out.old.items ++ (work_of_line state line).text) }
     ensures took { OnOk result ((state : FeedState) → StandsFor worker.old state
-        → IsOkAnd (work_of_text state text.now) (λ work. TookAll F.at F.step_limit (F.mark floor.old) FEED
-        work.state.moment work.submissions (floor.old, steps.old) (floor.new, steps.new))) }
+        → TookAll F.at F.step_limit (F.mark floor.old) FEED (work_of_line state line).state.moment
+        (work_of_line state line).submissions (floor.old, steps.old) (floor.new, steps.new)) }
     ensures own { IfOk result (λ own. (state : FeedState) → StandsFor worker.old state
-        → IsOkAnd (work_of_text state text.now) (λ work. AllZip (KeepsDown own) state.connections work.state.connections)) }
-    ensures refused { IfErr result (λ fault. (state : FeedState) → StandsFor worker.old state
-        → IsRefused F.at F.step_limit (F.mark floor.old) FEED fault (work_of_text state text.now)
-        (floor.old, steps.old) (floor.new, steps.new)) }
+        → AllZip (KeepsDown own) state.connections (work_of_line state line).state.connections) }
+    ensures stopped { IfErr result (λ refusal. (state : FeedState) → StandsFor worker.old state
+        → TookPart F.at F.step_limit (F.mark floor.old) FEED (work_of_line state line).state.moment refusal
+        (work_of_line state line).submissions (floor.old, steps.old) (floor.new, steps.new)) }
 
     // There is a desk for each member.
     ensures desks { AreDesks worker.old.config worker.old.desks }
@@ -65,13 +66,11 @@ pub fn work_text<F: Floor, L: Ledger>(
     ensures config { worker.new.config ≡ worker.old.config }
     ensures cursors { map (λ desk. desk.cursors) worker.new.desks ≡ map (λ desk. desk.cursors) worker.old.desks }
 {
-    let line = match read_line(alloc, text, worker.config()) {
-        Ok(line) => line,
-        Err(fault) => return Err(fault),
-    };
+    // Its contract says that there is a desk for each member.
+    let _config = worker.config();
     let own = own_of(worker, &line);
     match worker.work(floor, FEED, line, out, steps) {
         Ok(()) => Ok(own),
-        Err(refusal) => Err(refusal_at(1, refusal)),
+        Err(refusal) => Err(refusal),
     }
 }

@@ -1,0 +1,4 @@
+pub mod Fitting
+pub mod Bodies
+pub mod Taken
+pub mod Transcripts
