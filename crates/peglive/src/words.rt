@@ -1,0 +1,84 @@
+//! The words of the command line.
+use clap::{Arg, ArgMatches, Command};
+use std::alloc::{AllocError, Global};
+
+/// What is asked.
+#[derive(Clone, Copy, Debug)]
+pub enum Question<'a> {
+    /// A day over sockets.
+    Serve(Day<'a>, Doors<'a>),
+    /// A day of the lines of this file, its output on standard output.
+    Work(Day<'a>, &'a str),
+    /// Whether the config in this file will do.
+    Check(&'a str),
+    /// The words are none of these.
+    Unclear,
+}
+
+/// The files of a day.
+#[derive(Clone, Copy, Debug)]
+pub struct Day<'a> {
+    pub config: &'a str,
+    pub journal: &'a str,
+}
+
+/// Where members connect, and where operators do.
+#[derive(Clone, Copy, Debug)]
+pub struct Doors<'a> {
+    pub members: &'a str,
+    pub desk: &'a str,
+}
+
+/// What the words mean, for `--help`.
+const HELP: &str = "\
+Runs a trading day. Every line that comes in is on the disk before anybody is sent
+what it made, so a venue that was killed goes on where it was: start it again with
+the same words.
+
+  peglive CONFIG JOURNAL ADDRESS DESK   members connect at ADDRESS, as 127.0.0.1:7001;
+                                        operators at DESK, a path with a / in it (a Unix
+                                        socket) or an address of this machine
+  peglive CONFIG JOURNAL - FILE         works the lines of FILE without sockets, and
+                                        prints what members would be sent
+  peglive check CONFIG                  says what is wrong with a config, or what it takes";
+
+fn word<'a>(alloc: Global, name: &'static str, help: &'static str) -> Arg<'a> {
+    Arg::new(alloc, name).help(help)
+}
+
+/// The program as the command line's reader takes it.
+pub fn program<'a>(alloc: Global) -> Result<Command<'a>, AllocError> {
+    Command::new(alloc, "peglive")
+        .no_binary_name(true)
+        .version("0.2.0")
+        .about(HELP)
+        .arg_required_else_help(true)
+        .arg(word(alloc, "CONFIG", "The config of the day, or the word check"))?
+        .arg(word(
+            alloc,
+            "JOURNAL",
+            "The day's journal, which is made where it is not there",
+        ))?
+        .arg(word(alloc, "ADDRESS", "Where members connect"))?
+        .arg(word(alloc, "DESK", "Where operators connect"))
+}
+
+/// What is asked.
+pub fn question_of<'a>(matches: &ArgMatches<'a>) -> Question<'a> {
+    let words = (
+        matches.get_str("CONFIG"),
+        matches.get_str("JOURNAL"),
+        matches.get_str("ADDRESS"),
+        matches.get_str("DESK"),
+    );
+    match words {
+        (Some("check"), Some(config), None, None) => Question::Check(config),
+        (Some(config), Some(journal), Some("-"), Some(file)) => {
+            Question::Work(Day { config, journal }, file)
+        }
+        (Some(config), Some(journal), Some(members), Some(desk)) => {
+            Question::Serve(Day { config, journal }, Doors { members, desk })
+        }
+        _ => Question::Unclear,
+    }
+}

@@ -1,0 +1,4 @@
+pub mod Reads
+pub mod Flows
+pub mod Flowing
+pub mod Places

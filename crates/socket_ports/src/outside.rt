@@ -1,0 +1,197 @@
+//! The sockets as the outside of a live day.
+ghost use Rattle.std.specs.Prelude.{◌≡◌, ◌≤◌, ℕ, OnErr};
+ghost use Rattle.venue_words.specs.Causes.{HasCause};
+ghost use Rattle.socket_ports.specs.Places.{came_in, went_in, up_in};
+
+use crate::operator::Operator;
+use crate::seats::{MAX_OPERATORS, OPERATORS, Seats};
+use crate::sockets::Sockets;
+use fix_write::push_moment;
+use io_edge::{Clock as _, Failed, RealClock};
+use live_edge::Outside;
+use mio::{Events, Token};
+use std::alloc::{AllocError, Global};
+use std::io::Eprint;
+use std::net::Net;
+use std::rt::Clock;
+use std::time::Duration;
+
+/// After so many waits a door that failed is tried again, as where the process had no descriptor left.
+const RETRY_WAITS: u32 = 64;
+
+/// Notes all that the system told of.
+fn note_all(seats: &mut Seats, events: &Events)
+    ensures came { (q : ℕ) → came_in seats.new.places.items q ≡ came_in seats.old.places.items q }
+    ensures went { (q : ℕ) → went_in seats.new.places.items q ≡ went_in seats.old.places.items q }
+    ensures up { (q : ℕ) → up_in seats.new.places.items q ≡ up_in seats.old.places.items q }
+{
+    for event in events.iter() {
+        let Token(token) = event.token();
+        let ends = event.is_read_closed() || event.is_error();
+        seats.note(token, event.is_readable(), event.is_writable(), ends);
+    }
+}
+
+impl<'a, R: Net + Eprint + Clock> Sockets<'a, R> {
+    /// Waits, and notes what the system tells of.
+    fn wait_for(&mut self, most_milliseconds: u64) -> Result<(), Failed>
+        ensures came { (q : ℕ) → came_in self.new.seats.places.items q ≡ came_in self.old.seats.places.items q }
+        ensures went { (q : ℕ) → went_in self.new.seats.places.items q ≡ went_in self.old.seats.places.items q }
+        ensures up { (q : ℕ) → up_in self.new.seats.places.items q ≡ up_in self.old.seats.places.items q }
+        ensures cause { HasCause self.old.faults self.new.faults result }
+    {
+        self.waits = self.waits.wrapping_add(1);
+        if self.waits % RETRY_WAITS == 0 {
+            self.seats.members_ask = true;
+            self.seats.desk_asks = true;
+        }
+        let most = Duration::from_millis(most_milliseconds);
+        if self.poll.poll(&mut self.events, Some(most)).is_err() {
+            return Err(self.fail());
+        }
+        note_all(&mut self.seats, &self.events);
+        Ok(())
+    }
+
+    /// A place for another operator.
+    fn free_operator(&mut self) -> Result<Option<usize>, AllocError>
+        ensures places { self.new.seats.places ≡ self.old.seats.places }
+        ensures faults { self.new.faults ≡ self.old.faults }
+    {
+        for (index, operator) in self.seats.operators.iter().enumerate() {
+            if operator.is_none() {
+                return Ok(Some(index));
+            }
+        }
+        if self.seats.operators.len() >= MAX_OPERATORS {
+            return Ok(None);
+        }
+        self.seats.operators.push(None)?;
+        Ok(Some(self.seats.operators.len().saturating_sub(1)))
+    }
+}
+
+/// Lets operators in, as long as one asks and there is a place.
+fn admit_operators<R: Net + Eprint + Clock>(sockets: &mut Sockets<'_, R>) -> Result<(), AllocError>
+    ensures places { sockets.new.seats.places ≡ sockets.old.seats.places }
+    ensures faults { sockets.new.faults ≡ sockets.old.faults }
+{
+    for _ in 0..MAX_OPERATORS {
+        if !sockets.seats.desk_asks {
+            return Ok(());
+        }
+        let Some(index) = sockets.free_operator()? else {
+            return Ok(());
+        };
+        let Ok(mut stream) = sockets.desk.accept() else {
+            sockets.seats.desk_asks = false;
+            return Ok(());
+        };
+        let token = Token(OPERATORS.saturating_add(index));
+        if stream.register(sockets.poll.registry(), token).is_ok()
+            && index < sockets.seats.operators.len()
+        {
+            sockets.seats.operators[index] = Some(Operator::new(sockets.alloc, stream));
+        }
+    }
+    Ok(())
+}
+
+/// The next word of an operator, from one on, who is let go where nothing more comes of him.
+fn word_from<R: Net + Eprint + Clock>(
+    sockets: &mut Sockets<'_, R>,
+    index: usize,
+    line: &mut Vec<u8>,
+) -> Result<bool, AllocError>
+    ensures places { sockets.new.seats.places ≡ sockets.old.seats.places }
+    ensures faults { sockets.new.faults ≡ sockets.old.faults }
+{
+    if index >= sockets.seats.operators.len() {
+        return Ok(false);
+    }
+    let mut spoke = false;
+    let mut done = false;
+    if let Some(operator) = &mut sockets.seats.operators[index] {
+        operator.flush();
+        spoke = operator.word(line)?;
+        done = !spoke && operator.is_done();
+    }
+    if done {
+        sockets.seats.operators[index] = None;
+    }
+    Ok(spoke)
+}
+
+/// The next word of any operator, and whose it is. They take turns.
+fn next_word<R: Net + Eprint + Clock>(
+    sockets: &mut Sockets<'_, R>,
+    line: &mut Vec<u8>,
+) -> Result<Option<usize>, AllocError>
+    ensures places { sockets.new.seats.places ≡ sockets.old.seats.places }
+    ensures faults { sockets.new.faults ≡ sockets.old.faults }
+{
+    admit_operators(sockets)?;
+    let count = sockets.seats.operators.len();
+    for _ in 0..count {
+        let index = sockets.turn;
+        sockets.turn = if index.saturating_add(1) < count {
+            index.saturating_add(1)
+        } else {
+            0
+        };
+        if word_from(sockets, index, line)? {
+            return Ok(Some(index));
+        }
+    }
+    Ok(None)
+}
+
+/// The present moment as the log has it, and a line.
+fn tell<R: Net + Eprint + Clock>(
+    rt: &R,
+    alloc: Global,
+    now: i64,
+    text: &[u8],
+) -> Result<(), AllocError> {
+    let mut line = Vec::new(alloc);
+    if push_moment(&mut line, now).is_err() {
+        return Ok(());
+    }
+    line.push(b' ')?;
+    line.extend_from_slice(text)?;
+    if let Ok(line) = str::from_utf8(&line) {
+        let _ = eprintln!(rt; "{line}");
+    }
+    Ok(())
+}
+
+impl<'a, R: Net + Eprint + Clock> Outside for Sockets<'a, R> {
+    fn wait(&mut self, most_milliseconds: u64) -> Result<(), Failed> {
+        self.wait_for(most_milliseconds)
+    }
+
+    fn word(&mut self, line: &mut Vec<u8>) -> Result<Option<usize>, Failed> {
+        match next_word(self, line) {
+            Ok(spoke) => Ok(spoke),
+            Err(_) => Err(self.fail()),
+        }
+    }
+
+    fn answer(&mut self, operator: usize, text: &[u8]) -> Result<(), Failed> {
+        let mut answered = Ok(());
+        if operator < self.seats.operators.len() {
+            if let Some(operator) = &mut self.seats.operators[operator] {
+                answered = operator.answer(text);
+            }
+        }
+        match answered {
+            Ok(()) => Ok(()),
+            Err(_) => Err(self.fail()),
+        }
+    }
+
+    fn log(&mut self, text: &[u8]) {
+        let now = RealClock::new(self.rt).now();
+        let _ = tell(self.rt, self.alloc, now, text).is_ok();
+    }
+}
