@@ -54,6 +54,18 @@ def transcript_by_member(lines, folder, replay=TOP / "bin/pegreplay"):
     return frames
 
 
+def wrong_run(runs, due):
+    """Of a member's connections the first whose frames are no run of those that are due to him, after those of the connection before; or None."""
+    at = 0
+    for run in filter(None, runs):
+        while at < len(due) and due[at] != run[0]:
+            at += 1
+        if due[at:at + len(run)] != run:
+            return run[0]
+        at += len(run)
+    return None
+
+
 def asked_ids(lines):
     """All ClOrdIDs in the bytes that the members sent, as the journal has them."""
     asked = {}
@@ -90,6 +102,17 @@ class Venue:
 
     def say(self, *words):
         self.desk.sendall("".join(f"{word}\n" for word in words).encode())
+
+    def ask(self, word):
+        """Says a word at the desk. What it is answered."""
+        self.say(word)
+        answer = b""
+        while not answer.endswith(b"\n"):
+            piece = self.desk.recv(1024)
+            if not piece:
+                break
+            answer += piece
+        return answer.decode().rstrip("\n")
 
     def kill(self):
         os.kill(self.process.pid, signal.SIGKILL)

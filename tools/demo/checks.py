@@ -1,0 +1,81 @@
+"""What is looked at when the day is over: its journal, by programs that had no part in it."""
+import csv
+import re
+import shutil
+import subprocess
+
+from live_day import journal_lines, transcript_by_member, wrong_run
+from words import Failed
+
+
+class Day:
+    """The files of a day that has ended, in a folder."""
+
+    def __init__(self, folder, programs, members):
+        self.folder, self.programs, self.members = folder, programs, members
+        self.lines = journal_lines(folder / "day.journal")
+        begin = next(number for number, line in enumerate(self.lines) if line.startswith(b"BEGIN "))
+        self.write("day.config", self.lines[:begin + 1])
+        self.write("day.feed", self.lines[begin + 1:])
+
+    def write(self, name, lines):
+        (self.folder / name).write_bytes(b"".join(line + b"\n" for line in lines))
+
+    def run(self, program, *words, to=None):
+        """What a program puts, or the file that it puts into."""
+        with open(self.folder / (to or "out"), "wb") as out:
+            ran = subprocess.run([self.programs[program], *words], cwd=self.folder, stdout=out, stderr=subprocess.PIPE, check=False)
+        if ran.returncode:
+            told = (self.folder / (to or "out")).read_text(errors="replace")[:300]
+            raise Failed(f"{program} {' '.join(words)} ended with {ran.returncode}: {told}{ran.stderr.decode(errors='replace')}")
+        return (self.folder / (to or "out")).read_text(errors="replace")
+
+    def check_frames(self):
+        """Each connection was sent a run of what pegreplay prints for its member. How many frames and connections."""
+        frames = transcript_by_member(self.lines, self.folder, self.programs["pegreplay"])
+        count = connections = 0
+        for member in self.members:
+            wrong = wrong_run(member.runs, frames.get(member.name, []))
+            if wrong:
+                raise Failed(f"{member.name} was sent what the journal does not say: {wrong!r}")
+            count += sum(len(run) for run in member.runs)
+            connections += len(member.runs)
+        return count, connections
+
+    def check_reports(self):
+        """Each report of the listing came to its member, once, and no other did. How many."""
+        listed = {}
+        for line in (self.folder / "day.listing").read_bytes().splitlines():
+            if line.startswith(b"R "):
+                _, _, _, _, name, kind, body = line.split(b" ", 6)
+                listed.setdefault(name.decode(), []).append((kind, body.replace(b"|", b"\x01")))
+        for member in self.members:
+            due, got = sorted(listed.get(member.name, [])), sorted(member.reports)
+            if due != got:
+                differing = next((one for one in due + got if due.count(one) != got.count(one)), None)
+                raise Failed(f"{member.name} got {len(got)} reports and is due {len(due)}; the first that differs: {differing!r}")
+        return sum(len(member.reports) for member in self.members)
+
+    def audit(self):
+        """Has pegaudit recompute the day. How many events, and what it says."""
+        self.run("pegvenue", "day.config", "day.feed", to="day.listing")
+        said = self.run("pegaudit", "verify", "day.config", "day.listing", "day.feed").strip()
+        events = sum(int(count) for count in re.findall(r"^S \S+ (\d+) \d+$", (self.folder / "day.listing").read_text(), re.M))
+        return events, said
+
+    def trades(self):
+        """The day's trades, as pegaudit has them in its table."""
+        return list(csv.DictReader(self.run("pegaudit", "trades", "day.config", "day.listing").splitlines()))
+
+    def page(self, to):
+        """Leaves the day's files in a folder, with a page to open, whose path is returned."""
+        to.mkdir(parents=True, exist_ok=True)
+        for name in ("day.config", "day.feed", "day.listing"):
+            shutil.copyfile(self.folder / name, to / name)
+        if re.search(r"^ *pegaudit report\b", self.run("pegaudit", "--help"), re.M):
+            name, words = "day.html", ("report", "day.config", "day.listing")
+        else:
+            name, words = "acme.svg", ("chart", "day.config", "day.listing", "ACME")
+        self.run("pegaudit", *words, to=name)
+        shutil.copyfile(self.folder / name, to / name)
+        return to / name
