@@ -10,6 +10,11 @@ import time
 TOP = pathlib.Path(__file__).resolve().parent.parent
 
 
+def free_port():
+    with socket.create_server(("127.0.0.1", 0)) as held:
+        return held.getsockname()[1]
+
+
 def journal_lines(path):
     """The lines of a journal, as docs/day-journal.md says how one is read."""
     data = pathlib.Path(path).read_bytes() if os.path.exists(path) else b""

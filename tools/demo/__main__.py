@@ -11,7 +11,6 @@ import os
 import random
 import shutil
 import signal
-import socket
 import sys
 import tempfile
 import time
@@ -21,7 +20,7 @@ HERE = Path(__file__).resolve().parent
 sys.path[1:1] = [str(HERE.parent), str(HERE.parent.parent / "bench")]
 
 from checks import Day
-from live_day import Venue
+from live_day import Venue, free_port
 from members import MID, PRIMARY, Market, Member, at
 from programs import TOP, Programs, Unusable
 from words import Failed, Screen
@@ -31,11 +30,6 @@ NAMES = ("FUND", "BANK", "DESK")
 BUSY, KILLS = 5, (1.6, 3.3)
 # The most orders of a member that are not answered yet.
 WINDOW = 20
-
-
-def free_port():
-    with socket.create_server(("127.0.0.1", 0)) as held:
-        return held.getsockname()[1]
 
 
 def write_config(path):
