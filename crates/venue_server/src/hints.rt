@@ -1,14 +1,19 @@
-//! What a person at a terminal is told behind a status' text.
+//! What a person at a terminal is told: where the venue listens, and after a status' text what to do.
 
 use serve_core::ServeStatus;
+use std::io::{self, IsTerminal};
+use std::net::TcpListener;
 use std::slice::from_ref;
-use terminal_hints::{Hint, named};
+use terminal_hints::{Hint, named, word_at};
 
 /// The place of the config's name among the words.
 pub const CONFIG: usize = 0;
 
 /// The place of the name of the file of quotes among the words.
 pub const QUOTES: usize = 3;
+
+/// The places of the addresses of members and of the drop session among the words.
+const ADDRESSES: [usize; 2] = [1, 4];
 
 const USAGE: &str =
     "usage: pegserve CONFIG ADDRESS CONNECTIONS [QUOTES [DROPADDRESS NAME MEMBER ..]]\nCONFIG is a script's header, CONNECTIONS 1 to 64, QUOTES a file of quotes; NAME, no member's name, gets copies of the reports of members of the config.";
@@ -43,5 +48,36 @@ pub fn hint_of<'a>(status: ServeStatus<'_>, words: &'a [String], place: usize) -
         ServeStatus::ReadFault => Hint::Unread(files),
         ServeStatus::WriteFault => Hint::Unwritten,
         ServeStatus::ListenFault => Hint::Text(LISTEN),
+    }
+}
+
+/// Shows on standard error, where that is a terminal, for whom a listener listens, and where.
+pub fn show_listening(system: &HostRuntime, whom: &str, listener: &TcpListener) {
+    if system.stderr().is_terminal()
+        && let Ok(address) = listener.local_addr()
+    {
+        let _shown = eprintln!(system; "pegserve: listening for {whom} at {address}");
+    }
+}
+
+/// Shows why an address cannot be listened at, if it cannot.
+fn write_reason(system: &HostRuntime, address: &str) -> io::Result<()> {
+    match TcpListener::bind(system, address) {
+        Ok(_) => Ok(()),
+        Err(error) => eprintln!(system; "  {address}: {error}"),
+    }
+}
+
+/// Where the run ended since an address could not be listened at, and standard error is a terminal: shows the system's reason.
+pub fn show_refused_addresses(system: &HostRuntime, status: ServeStatus<'_>, words: &[String]) {
+    if let ServeStatus::ListenFault = status
+        && system.stderr().is_terminal()
+    {
+        for place in ADDRESSES {
+            let address = word_at(words, place);
+            if !address.is_empty() {
+                let _shown = write_reason(system, address);
+            }
+        }
     }
 }

@@ -17,7 +17,7 @@ ghost use Rattle.venue_server.specs.Seating.{HasSeats};
 use crate::asking::{Copies, Setup, set_up};
 use crate::closing::close_and_list;
 use crate::copying::CopySession;
-use crate::hints::{CONFIG, QUOTES, hint_of};
+use crate::hints::{CONFIG, QUOTES, hint_of, show_listening, show_refused_addresses};
 use crate::joining::join_all;
 use crate::opening::open_venue;
 use crate::splitting::jobs_and_last;
@@ -250,6 +250,10 @@ fn listen<
     let Ok(session) = listen_for_copies(rt, copies) else {
         return ServeStatus::ListenFault;
     };
+    show_listening(system, "members", &listener);
+    if let Some(session) = &session {
+        show_listening(system, "the drop session", &session.listener);
+    }
     let server = Server {
         alloc: system.alloc(),
         plan,
@@ -288,6 +292,7 @@ pub fn run<
         ) => {
             let status = listen(rt, system, &plan, &config, copies, out);
             let exit = end_with(status, err);
+            show_refused_addresses(system, status, words);
             hint_of(status, words, QUOTES).show(system);
             exit
         }
