@@ -1,35 +1,43 @@
 #!/usr/bin/env python3
-"""soak.py [SECONDS [SEED]]: a venue under members that come and go. It is no part of the gate.
+"""soak.py [live] [SECONDS [SEED]]: a venue under members that come and go. It is no part of the gate.
 
 Sixteen members use bin/pegserve for so many seconds (60 if none is named), each over four connections: they send orders, cancels,
 replaces, status requests and bytes that mean nothing, drop their connection in the middle of a frame, come back, and ask for what they missed.
-Behind it, the listing that the venue prints has to hold each report that a member got, once, in order and byte for byte.
+After it, the listing that the venue prints has to hold each report that a member got, once, in order and byte for byte. PROGRAMS names another folder than bin.
+
+With `live` they use peglive, each over as many connections as he likes; the listing is what pegvenue makes of the journal, has to be audited as `same`, and
+each connection has to have been sent a run of what pegreplay prints of the journal.
 """
 import collections
 import os
+import pathlib
 import random
+import re
 import subprocess
 import sys
 import tempfile
 import time
 
-from fix_client import SOH, Client, stamp
+from fix_client import SOH, stamp
+from live_day import TOP, Venue, free_port, journal_lines
+from live_members import Member as Trader
+from live_members import judge
 from serve import SYMBOLS, write_config
 
 MEMBERS, LIVES = 16, 4
-PORT = 17200
+PROGRAMS = pathlib.Path(os.environ.get("PROGRAMS", TOP / "bin")).resolve()
 
 
 class Member:
     """What one member does."""
 
-    def __init__(self, number, chance, seconds):
+    def __init__(self, number, chance, port, seconds, lives=LIVES):
         # A connection is dropped when it has had about its share of the time, so that the last one lasts to the end.
-        self.share = seconds / LIVES
+        self.share = seconds / lives
         self.until = self.back = 0.0
-        self.client = Client(f"M{number}", ("127.0.0.1", PORT))
+        self.client = Trader(f"M{number}", port)
         self.chance = chance
-        self.lives = LIVES
+        self.lives = lives
         self.ids = 0
         self.orders = []
 
@@ -72,17 +80,7 @@ class Member:
             client.close()
 
 
-def run(seconds, seed, folder):
-    config, quotes = os.path.join(folder, "config"), os.path.join(folder, "quotes")
-    write_config(config, MEMBERS)
-    with open(quotes, "w") as out:
-        for symbol in range(SYMBOLS):
-            print(f"Q S{symbol} N 10.00 10.01", file=out)
-    listing = open(os.path.join(folder, "listing"), "w+b")
-    venue = subprocess.Popen(["bin/pegserve", config, f"127.0.0.1:{PORT}", str(MEMBERS * LIVES), quotes], stdout=listing)
-    time.sleep(1)
-    chance = random.Random(seed)
-    members = [Member(k, chance, seconds) for k in range(MEMBERS)]
+def trade(members, seconds):
     end = time.monotonic() + seconds
     while time.monotonic() < end:
         for member in members:
@@ -97,11 +95,25 @@ def run(seconds, seed, folder):
                 # The venue ends the old connection first: a member has one at a time.
                 member.back = time.monotonic() + 0.5
         time.sleep(0.001)
-    # Each member comes once more for what it missed, and leaves; the lives that are left are used up.
+    # Each member comes once more for what it missed.
     for member in members:
         if member.client.connection is None and member.lives:
             member.begin()
     settle(members, 5)
+
+
+def serve(seconds, seed, folder):
+    """A run of pegserve. The members, and its listing."""
+    port = free_port()
+    write_config(folder / "config", MEMBERS)
+    (folder / "quotes").write_text("".join(f"Q S{symbol} N 10.00 10.01\n" for symbol in range(SYMBOLS)))
+    with open(folder / "listing", "wb") as listing:
+        venue = subprocess.Popen([PROGRAMS / "pegserve", folder / "config", f"127.0.0.1:{port}", str(MEMBERS * LIVES), folder / "quotes"], stdout=listing)
+    time.sleep(1)
+    chance = random.Random(seed)
+    members = [Member(k, chance, port, seconds) for k in range(MEMBERS)]
+    trade(members, seconds)
+    # The connections that are left are used up, and the venue ends.
     for member in members:
         member.client.close()
         while member.lives:
@@ -109,8 +121,39 @@ def run(seconds, seed, folder):
             member.lives -= 1
             member.client.close()
     status = venue.wait(60)
-    listing.seek(0)
-    return status, members, listing.read()
+    if status:
+        sys.exit(f"the venue ended with status {status}")
+    return members, (folder / "listing").read_bytes()
+
+
+def live(seconds, seed, folder):
+    """A day of peglive. The members, and the listing of its journal, which is audited."""
+    port = free_port()
+    write_config(folder / "config", MEMBERS)
+    venue = Venue(folder / "config", folder / "journal", port, folder / "desk", PROGRAMS / "peglive")
+    venue.start()
+    for symbol in range(SYMBOLS):
+        if venue.ask(f"Q S{symbol} N 10.00 10.01") != "OK":
+            sys.exit("a quote was not taken")
+    chance = random.Random(seed)
+    members = [Member(k, chance, port, seconds, max(LIVES, seconds // 10)) for k in range(MEMBERS)]
+    trade(members, seconds)
+    peak = re.search(r"VmHWM:\s+(\d+)", pathlib.Path(f"/proc/{venue.process.pid}/status").read_text())[1]
+    status = venue.stop()
+    if status:
+        sys.exit(f"the venue ended with status {status}")
+    lines = journal_lines(folder / "journal")
+    wrong, compared = judge([member.client for member in members], lines, folder, PROGRAMS / "pegreplay")
+    if wrong:
+        sys.exit("\n".join(wrong[:20]))
+    begin = next(at for at, line in enumerate(lines) if line.startswith(b"BEGIN "))
+    (folder / "feed").write_bytes(b"".join(line + b"\n" for line in lines[begin + 1:]))
+    with open(folder / "listing", "wb") as listing:
+        subprocess.run([PROGRAMS / "pegvenue", folder / "config", folder / "feed"], stdout=listing, check=True)
+    subprocess.run([PROGRAMS / "pegaudit", "verify", folder / "config", folder / "listing", folder / "feed"], stdout=subprocess.DEVNULL, check=True)
+    connections = sum(len(member.client.runs) for member in members)
+    print(f"{connections} connections, {len(lines):,} lines in the journal, {compared:,} frames as it says, audited as same; {int(peak) // 1024} MB at most")
+    return members, (folder / "listing").read_bytes()
 
 
 def settle(members, seconds):
@@ -147,12 +190,11 @@ def check(members, listing):
 
 
 def main():
-    seconds = int(sys.argv[1]) if len(sys.argv) > 1 else 60
-    seed = int(sys.argv[2]) if len(sys.argv) > 2 else 1
-    with tempfile.TemporaryDirectory() as folder:
-        status, members, listing = run(seconds, seed, folder)
-        if status:
-            sys.exit(f"the venue ended with status {status}")
+    words = sys.argv[1:]
+    is_live = words[:1] == ["live"]
+    seconds, seed = (int(word) for word in (words[is_live:] + ["60", "1"][len(words) - is_live:]))
+    with tempfile.TemporaryDirectory(dir=TOP) as name:
+        members, listing = (live if is_live else serve)(seconds, seed, pathlib.Path(name))
         got, listed = check(members, listing)
         events = listing.count(b"\nJ ") + listing.startswith(b"J ")
         print(f"{seconds} s, {events:,} events, {listed:,} reports in the listing, {got:,} of them received, each once and in order")
