@@ -182,7 +182,7 @@ def a_member_reads_nothing(port, seconds):
 
 
 def a_member_reads_a_byte_a_second(port, seconds):
-    """The same, and he reads one byte a second."""
+    """A member sends TestRequests as fast as they are taken, and reads one byte of the answers a second."""
     return ask_without_reading(port, 1, max(seconds, PATIENCE))
 
 
@@ -238,7 +238,7 @@ def many_resend_requests(port, _, bad):
 
 
 def many_resend_requests_unread(port, seconds, bad):
-    """The same, and he reads nothing."""
+    """A member of 30,000 reports sends 38 ResendRequests of all of them in one write, and reads nothing."""
     bad.send(b"".join(bad.message(b"2", b"7=1\x0116=0\x01") for _ in range(38)))
     end = time.monotonic() + max(seconds, PATIENCE)
     while time.monotonic() < end:

@@ -106,6 +106,12 @@ class Venue:
         sys.exit("peglive does not listen")
 
     def say(self, *words):
+        """Says words at the desk. Answers that came to earlier ones are dropped."""
+        try:
+            while self.desk.recv(1 << 16, socket.MSG_DONTWAIT):
+                pass
+        except BlockingIOError:
+            pass
         self.desk.sendall("".join(f"{word}\n" for word in words).encode())
 
     def ask(self, word):

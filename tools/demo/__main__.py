@@ -205,17 +205,16 @@ def main(words):
         print(__doc__.strip(), file=sys.stdout if words in (["--help"], ["-h"]) else sys.stderr)
         return 0 if words in (["--help"], ["-h"]) else 2
     signal.signal(signal.SIGTERM, lambda *_: sys.exit(143))
-    programs, folder = None, Path(tempfile.mkdtemp(prefix="lubweqad-demo-"))
+    programs, folder = Programs(), Path(tempfile.mkdtemp(prefix="lubweqad-demo-"))
     try:
-        programs = Programs(os.environ.get("PROGRAMS"))
+        programs.prepare(os.environ.get("PROGRAMS"))
         show(programs, folder)
         return 0
     except (Failed, Unusable) as why:
         print(f"demo: {why}", file=sys.stderr)
         return 1
     finally:
-        if programs is not None:
-            programs.stop()
+        programs.stop()
         shutil.rmtree(folder, ignore_errors=True)
 
 

@@ -29,9 +29,12 @@ def has_memory_for(count):
 class Programs(dict):
     """Paths by name. peglive is there from the start; what only the checks at the end need is compiled meanwhile, with less of the processors."""
 
-    def __init__(self, folder):
+    def __init__(self):
         super().__init__()
         self.meanwhile, self.log = None, None
+
+    def prepare(self, folder=None):
+        """Finds the programs in a folder, if one is named, or else where they are; compiles them where they are not."""
         every = ("peglive", *AFTERWARDS)
         if folder:
             self.take(Path(folder).resolve(), every)
@@ -54,7 +57,6 @@ class Programs(dict):
             self.log = tempfile.TemporaryFile()
             self.meanwhile = subprocess.Popen(["nice", TOP / "tools/unproved", *AFTERWARDS], stdout=subprocess.DEVNULL, stderr=self.log)
         if subprocess.run([TOP / "tools/unproved", "peglive"], stdout=subprocess.DEVNULL, check=False).returncode:
-            self.stop()
             raise Unusable("peglive could not be compiled")
         self.take(kept, ["peglive"])
 
