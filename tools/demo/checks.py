@@ -72,7 +72,7 @@ class Day:
         to.mkdir(parents=True, exist_ok=True)
         for name in ("day.config", "day.feed", "day.listing"):
             shutil.copyfile(self.folder / name, to / name)
-        if re.search(r"^ *pegaudit report\b", self.run("pegaudit", "--help"), re.M):
+        if re.search(r"^ +report\b", self.run("pegaudit", "--help"), re.M):
             name, words = "day.html", ("report", "day.config", "day.listing")
         else:
             name, words = "acme.svg", ("chart", "day.config", "day.listing", "ACME")
