@@ -68,7 +68,8 @@ class Day:
         return list(csv.DictReader(self.run("pegaudit", "trades", "day.config", "day.listing").splitlines()))
 
     def page(self, to):
-        """Leaves the day's files in a folder, with a page to open, whose path is returned."""
+        """Leaves the day's files in a folder in the place of those of the last day, with a page to open, whose path is returned."""
+        shutil.rmtree(to, ignore_errors=True)
         to.mkdir(parents=True, exist_ok=True)
         for name in ("day.config", "day.feed", "day.listing"):
             shutil.copyfile(self.folder / name, to / name)
