@@ -5,9 +5,16 @@ import signal
 import socket
 import subprocess
 import sys
+import tempfile
 import time
 
 TOP = pathlib.Path(__file__).resolve().parent.parent
+
+
+def scratch_folder():
+    """A temporary folder on the disk of the repository, where git doesn't look."""
+    (TOP / "bin").mkdir(exist_ok=True)
+    return tempfile.TemporaryDirectory(dir=TOP / "bin")
 
 
 def free_port():

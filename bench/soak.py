@@ -15,11 +15,10 @@ import random
 import re
 import subprocess
 import sys
-import tempfile
 import time
 
 from fix_client import SOH, stamp
-from live_day import TOP, Venue, free_port, journal_lines
+from live_day import TOP, Venue, free_port, journal_lines, scratch_folder
 from live_members import Member as Trader
 from live_members import judge
 from serve import SYMBOLS, write_config
@@ -193,7 +192,7 @@ def main():
     words = sys.argv[1:]
     is_live = words[:1] == ["live"]
     seconds, seed = (int(word) for word in (words[is_live:] + ["60", "1"][len(words) - is_live:]))
-    with tempfile.TemporaryDirectory(dir=TOP) as name:
+    with scratch_folder() as name:
         members, listing = (live if is_live else serve)(seconds, seed, pathlib.Path(name))
         got, listed = check(members, listing)
         events = listing.count(b"\nJ ") + listing.startswith(b"J ")
