@@ -7,7 +7,7 @@ use Rattle.ports.specs.declared.slots.State.TheVariants.{Free, Unnamed, Named as
 use Rattle.ports.specs.declared.table.Table.{Table}
 use Rattle.ports.specs.History.{Event, Opened, Named, Put, Ended, state_of, due, is_of, handed}
 use Rattle.ports.specs.Sound.{Sound, Stands, IsEarly}
-use Rattle.ports.specs.Slots.{state_at, early_at, port_of, waits_of}
+use Rattle.ports.specs.Slots.{state_at, kept_at, port_of, waits_of}
 use Rattle.ports.specs.Results as answers
 use Rattle.ports.specs.Results.{IsNaming}
 use Rattle.ports.specs.declared.answers.Opening.{Opening}
@@ -121,7 +121,7 @@ due_read port (heard.Over why) past h = ended past port h
 -- nothing is due to a connection without a name
 none_early : (past : List Event) (t : Table) (c w : ℕ → List ℕ) (port : ℕ) → Sound past t c w → state_at t port ≡ Unnamed → due past port ≡ []
 none_early past t c w port s is =
-    let had : IsEarly (handed past port) (due past port) (early_at t port) (c port) (w port) = subst (λ (x : State). Stands x (handed past port) (due past port) (early_at t port) (c port) (w port) (waits_of t) (port_of t) port) is (s.each port) in
+    let had : IsEarly (handed past port) (due past port) (kept_at t port) (c port) (w port) = subst (λ (x : State). Stands x (handed past port) (due past port) (kept_at t port) (c port) (w port) (waits_of t) (port_of t) port) is (s.each port) in
     had.due
 
 pub due_named : (port member count : ℕ) (answer : Naming) (past : List Event) (t : Table) (c w : ℕ → List ℕ) → Sound past t c w → IsNaming (state_at t port) member count answer
@@ -180,7 +180,7 @@ put_nobody past t c w m bytes s none =
       states = s.states;
       each = λ p.
           let not : is_of m (state_of past p) ≡ false = is_of_not m (state_of past p) (λ e. none p (s.states p ∙ e)) in
-          subst (λ (b : Bool). Stands (state_at t p) (handed past p) (cond b (due past p ++ bytes) (due past p)) (early_at t p) (c p) (w p) (waits_of t) (port_of t) p) (sym not) (s.each p);
+          subst (λ (b : Bool). Stands (state_at t p) (handed past p) (cond b (due past p ++ bytes) (due past p)) (kept_at t p) (c p) (w p) (waits_of t) (port_of t) p) (sym not) (s.each p);
     }
 
 free_is_not : (m : ℕ) → Free ≡ IsNamed m → ⊥
@@ -201,8 +201,8 @@ moved past t c c' w w' j ec ew =
     record {
       sound = record {
         states = j.sound.states;
-        each = λ p. subst (λ (x : List ℕ). Stands (state_at t p) (handed past p) (due past p) (early_at t p) (c' p) x (waits_of t) (port_of t) p) (sym (ew p))
-            (subst (λ (x : List ℕ). Stands (state_at t p) (handed past p) (due past p) (early_at t p) x (w p) (waits_of t) (port_of t) p) (sym (ec p)) (j.sound.each p));
+        each = λ p. subst (λ (x : List ℕ). Stands (state_at t p) (handed past p) (due past p) (kept_at t p) (c' p) x (waits_of t) (port_of t) p) (sym (ew p))
+            (subst (λ (x : List ℕ). Stands (state_at t p) (handed past p) (due past p) (kept_at t p) x (w p) (waits_of t) (port_of t) p) (sym (ec p)) (j.sound.each p));
       };
       due = j.due;
     }

@@ -1,8 +1,8 @@
 -- Whose a connection is, by its first bytes.
-use Rattle.std.specs.Prelude.{◌≡◌, ◌==◌, ℕ, Bool, true, false, List, ◌++◌, Option, Some, None, option_map, position, bytes_eq, codes}
+use Rattle.std.specs.Prelude.{◌≡◌, ◌==◌, ◌<◌, ℕ, Bool, true, false, List, ◌∷◌, ◌++◌, length, take, min, Option, Some, None, option_map, position, bytes_eq, codes}
 use Rattle.std.specs.List.{find}
 use Rattle.std.specs.Option.{option_map_or}
-use Rattle.venue_words.specs.declared.limits.TheConstants.{VENUE}
+use Rattle.venue_words.specs.declared.limits.TheConstants.{MAX_FRAME_BYTES, VENUE}
 use Rattle.fix_fields.specs.declared.field.Field.{Field}
 use Rattle.fix_fields.specs.Content.{content_of}
 use Rattle.fix_fields.specs.Spelling.{AreFields, spellings}
@@ -18,14 +18,31 @@ value_of tag fields = option_map (λ field. field.bytes) (find (λ field. field.
 abbrev pub is_value : ℕ → List ℕ → List Field → Bool
 is_value tag expected fields = option_map_or (λ bytes. bytes_eq bytes expected) (value_of tag fields) false
 
--- the first frame of a stream that begins so, whatever follows
+-- how a frame begins, up to the digits of its length
+abbrev pub opening : List ℕ
+opening = codes "8=FIXT.1.1" ++ 1 ∷ codes "9="
+
+-- bytes begin as a frame does, as far as they go
+abbrev pub Opens : List ℕ → Type 0
+Opens bytes = take (min (length bytes) 13) bytes ≡ take (min (length bytes) 13) opening
+
+-- a frame may come of bytes: they begin as one does, and are fewer than the longest has
+pub record MayBegin (bytes : List ℕ) : Type 0 where
+  pub opens : Opens bytes
+  pub few : length bytes < MAX_FRAME_BYTES
+
+-- the first frame among some bytes, whatever follows
+abbrev pub IsGiven : List ℕ → List ℕ → Type 0
+IsGiven bytes frame = (before : ℕ) × ((more : List ℕ) → next_from (bytes ++ more) ≡ gives before frame)
+
+-- a connection whose first bytes these are begins with this frame, whatever follows
 abbrev pub IsFirstFrame : List ℕ → List ℕ → Type 0
-IsFirstFrame early frame = (before : ℕ) × ((more : List ℕ) → next_from (early ++ more) ≡ gives before frame)
+IsFirstFrame early frame = (more : List ℕ) → next_from (early ++ more) ≡ gives 0 frame
 
 abbrev pub IsFirst : List ℕ → First → Type 0
-IsFirst early (Frame frame) = IsFirstFrame early frame
-IsFirst early Waits = Unit {0}
-IsFirst early TooLong = Unit {0}
+IsFirst bytes (Frame frame) = IsGiven bytes frame
+IsFirst bytes Waits = Unit {0}
+IsFirst bytes TooLong = Unit {0}
 
 -- a Logon to the venue that a member sends
 pub record IsLogon (fields : List Field) (names : List (List ℕ)) (member : ℕ) : Type 0 where

@@ -1,7 +1,7 @@
 //! The connections of the members.
 ghost use Rattle.std.specs.Prelude.{cond, ◌==◌, ◌≡◌, ◌≢◌, ◌≤◌, ◌<◌, ◌+◌, ◌++◌, ◌∷◌, [], ℕ, false, length, Ok, is_ok, IfOk, IfSome, OnOk, OnErr, All};
 ghost use Rattle.venue_words.specs.Causes.{HasCause, Rose};
-ghost use Rattle.ports.specs.Slots.{early_at};
+ghost use Rattle.ports.specs.Slots.{kept_at};
 ghost use Rattle.live_edge.specs.Naming.{IsClaim};
 ghost use Rattle.live_edge.specs.Stories.{beginning};
 ghost use Rattle.live_edge.specs.Joins.{Joined, all_put};
@@ -17,6 +17,15 @@ use venue_words::{Bytes, NoMemory};
 
 /// How long a connection may go without a name, in milliseconds.
 const NAMING_MILLISECONDS: u64 = 30_000;
+
+/// A member is slow while more bytes than these wait for him.
+const SLOW_BYTES: usize = 4_194_304;
+
+/// How long a member may be slow, in milliseconds.
+const SLOW_MILLISECONDS: u64 = 30_000;
+
+/// While more bytes than these wait for a member he is not read.
+const READING_BYTES: usize = 65_536;
 
 /// The most connections that are let in at once.
 const MOST_AT_ONCE: usize = 256;
@@ -35,6 +44,10 @@ pub(crate) struct Connections<O: Outside> {
     pub(crate) owed: Vec<bool>,
     /// Whether bytes came to a port since its name was looked for.
     pub(crate) fresh: Vec<bool>,
+    /// The moment since when the member of a port is slow.
+    pub(crate) slow: Vec<Option<u64>>,
+    /// Whether a member may be read again who was not for a while.
+    pub(crate) eased: bool,
     /// How often this edge itself has failed, for which only memory can be the cause.
     pub(crate) faults: u64,
     pub(crate) story: Story,
@@ -62,6 +75,8 @@ impl<O: Outside + Drop> Connections<O> {
             unnamed: 2 * members + 16,
             owed: vec![in alloc; true; members]?,
             fresh: vec![in alloc; false; ports]?,
+            slow: vec![in alloc; None; ports]?,
+            eased: false,
             faults: 0,
             story: Story::new(),
         })
@@ -156,7 +171,7 @@ impl<O: Outside> Connections<O> {
         if let Putting::Over { .. } = putting {
             self.note_end(State::Named { member });
             self.outside
-                .log(b"a member's connection is ended: it reads too slowly");
+                .log(b"a member's connection is ended: too much waits for it");
         }
     }
 
@@ -285,6 +300,46 @@ impl<O: Outside> Connections<O> {
         }
     }
 
+    /// How many bytes wait for the member of a port.
+    fn backlog(&self, port: usize) -> usize {
+        match self.table.state(port) {
+            State::Named { member } => self.table.waiting(member),
+            _ => 0,
+        }
+    }
+
+    /// Notes whether the member of a port is slow, and says whether he was so for too long.
+    fn is_late(&mut self, port: usize, now: u64) -> bool
+        ensures { self.new ≡ record self.old { slow = self.new.slow } }
+    {
+        if port >= self.slow.len() {
+            return false;
+        }
+        if self.backlog(port) <= SLOW_BYTES {
+            self.slow[port] = None;
+            return false;
+        }
+        let since = self.slow[port].unwrap_or(now);
+        self.slow[port] = Some(since);
+        now.saturating_sub(since) > SLOW_MILLISECONDS
+    }
+
+    /// Ends the connections of members who were slow for too long.
+    pub(crate) fn end_slow(&mut self, now: u64)
+        ensures keeps { Keeps self.old.story.tale self.new.story.tale }
+        ensures joined { Joined self.old.story.tale.past self.old.table (O.came self.old.outside) (O.went self.old.outside) → Joined self.new.story.tale.past self.new.table (O.came self.new.outside) (O.went self.new.outside) }
+        ensures later { O.faults self.old.outside + self.old.faults ≤ O.faults self.new.outside + self.new.faults }
+    {
+        for port in 0..self.ports {
+            if self.is_late(port, now) {
+                self.dismiss(
+                    port,
+                    "a member's connection is ended: over 4 MiB waited for it for 30 seconds",
+                );
+            }
+        }
+    }
+
     /// Reads once of a port, up to the room.
     pub(crate) fn read(&mut self, port: usize, room: &mut [u8]) -> Result<Heard, Failed>
         ensures keeps { Keeps self.old.story.tale self.new.story.tale }
@@ -314,7 +369,7 @@ impl<O: Outside> Connections<O> {
         port: usize,
         member: usize,
     ) -> Result<Naming, Failed>
-        requires claim { IsClaim (early_at self.old.table port) setup.now.members member }
+        requires claim { IsClaim (kept_at self.old.table port) setup.now.members member }
         ensures keeps { Keeps self.old.story.tale self.new.story.tale }
         ensures joined { Joined self.old.story.tale.past self.old.table (O.came self.old.outside) (O.went self.old.outside) → Joined self.new.story.tale.past self.new.table (O.came self.new.outside) (O.went self.new.outside) }
         ensures cause { HasCause (O.faults self.old.outside + self.old.faults) (O.faults self.new.outside + self.new.faults) result }
@@ -363,6 +418,19 @@ impl<O: Outside> Connections<O> {
         }
     }
 
+    /// Gives a port what waits for its member, and notes whether he may be read again.
+    fn relieve(&mut self, port: usize)
+        ensures keeps { Keeps self.old.story.tale self.new.story.tale }
+        ensures joined { Joined self.old.story.tale.past self.old.table (O.came self.old.outside) (O.went self.old.outside) → Joined self.new.story.tale.past self.new.table (O.came self.new.outside) (O.went self.new.outside) }
+        ensures later { O.faults self.old.outside + self.old.faults ≤ O.faults self.new.outside + self.new.faults }
+    {
+        let before = self.backlog(port);
+        self.flush(port);
+        if before > READING_BYTES && self.backlog(port) <= READING_BYTES {
+            self.eased = true;
+        }
+    }
+
     /// Gives each port what waits for its member, as far as it takes it.
     pub(crate) fn flush_all(&mut self)
         ensures keeps { Keeps self.old.story.tale self.new.story.tale }
@@ -370,7 +438,7 @@ impl<O: Outside> Connections<O> {
         ensures later { O.faults self.old.outside + self.old.faults ≤ O.faults self.new.outside + self.new.faults }
     {
         for port in 0..self.ports {
-            self.flush(port);
+            self.relieve(port);
         }
     }
 }

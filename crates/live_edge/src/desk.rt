@@ -4,7 +4,7 @@ ghost use Rattle.day_journal.specs.Log.{IsShortLine};
 ghost use Rattle.ports.specs.Cuts.{IsPiece};
 ghost use Rattle.venue_words.specs.Causes.{HasCause};
 ghost use Rattle.std.specs.Prelude.{◌≤ℤ◌};
-ghost use Rattle.ports.specs.Slots.{early_at};
+ghost use Rattle.ports.specs.Slots.{kept_at};
 ghost use Rattle.live_edge.specs.Naming.{IsClaim};
 ghost use Rattle.live_edge.specs.Joins.{Joined, all_put};
 ghost use Rattle.live_edge.specs.Rounds.{Keeps, IsInOrder, IsMarked};
@@ -91,7 +91,7 @@ impl<O: Outside, C: Clock> Desk<O, C> {
     fn wait_time(&mut self) -> u64
         ensures { self.new ≡ record self.old { clock = self.new.clock } }
     {
-        if self.busy || self.connections.owed.contains(&true) {
+        if self.busy || self.connections.eased || self.connections.owed.contains(&true) {
             return 0;
         }
         if !self.has_member() {
@@ -115,6 +115,7 @@ impl<O: Outside, C: Clock> Desk<O, C> {
     {
         let most = self.wait_time();
         self.busy = false;
+        self.connections.eased = false;
         match self.connections.outside.wait(most) {
             Ok(()) => Ok(()),
             Err(_) => Err(self.connections.fail()),
@@ -151,7 +152,7 @@ impl<O: Outside, C: Clock> Desk<O, C> {
         lines: &mut Vec<Bytes>,
         body: &mut Vec<Bytes>,
     ) -> Result<(), Failed>
-        requires claim { IsClaim (early_at self.old.connections.table port) self.old.setup.members member }
+        requires claim { IsClaim (kept_at self.old.connections.table port) self.old.setup.members member }
         requires lines { All IsShortLine lines.old.items }
         requires body { All IsShortLine body.old.items }
         ensures lines { OnOk result (All IsShortLine lines.new.items) }
@@ -206,7 +207,7 @@ impl<O: Outside, C: Clock> Desk<O, C> {
         ensures last { self.new.last ≡ self.old.last }
         ensures cause { HasCause (O.faults self.old.connections.outside + self.old.connections.faults) (O.faults self.new.connections.outside + self.new.connections.faults) result }
     {
-        let early = self.connections.table.early(port);
+        let early = self.connections.table.kept(port);
         match claimed_by(self.connections.alloc, early, self.setup.names()) {
             Ok(Claim::Waits) => {
                 self.connections.note_fresh(port, false);
@@ -281,7 +282,7 @@ impl<O: Outside, C: Clock> Desk<O, C> {
                 self.busy = true;
                 Ok(0)
             }
-            Heard::Nothing | Heard::Over(_) => Ok(0),
+            Heard::Nothing | Heard::Held | Heard::Over(_) => Ok(0),
         }
     }
 
@@ -458,12 +459,13 @@ impl<O: Outside, C: Clock> Desk<O, C> {
         let now = since(self.clock.now());
         self.connections.let_in(now)?;
         self.connections.end_late(now);
+        self.connections.flush_all();
+        self.connections.end_slow(now);
         let mut body = Vec::new(self.connections.alloc);
         self.pay(lines)?;
         self.look_all(lines, &mut body)?;
         self.read_all(&mut body)?;
         self.hear(&mut body)?;
-        self.connections.flush_all();
         self.bring(lines, body)
     }
 

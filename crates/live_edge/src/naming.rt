@@ -1,15 +1,37 @@
 //! Whose a connection is, by its first bytes.
-ghost use Rattle.std.specs.Prelude.{◌≡◌, ◌<◌, ℕ, length, position, IfOk, IfSome};
+ghost use Rattle.std.specs.Prelude.{◌≡◌, ◌≢◌, ◌<◌, ◌≤◌, ℕ, true, length, position, IfOk, IfSome};
 ghost use Rattle.std.specs.Option.{option_copied};
 ghost use Rattle.std.specs.Prelude.{Ok};
-ghost use Rattle.live_edge.specs.declared.naming.Claim.TheVariants.{Member as Claims};
-ghost use Rattle.live_edge.specs.Naming.{IsFirst, IsClaim, IsLogonFrame, IsLogon, value_of, is_value};
+ghost use Rattle.live_edge.specs.declared.naming.Claim.TheVariants.{Member as Claims, Waits as IsUnclear};
+ghost use Rattle.live_edge.specs.declared.naming.Begun.TheVariants.{Waits as IsWaiting, Whole as IsWhole};
+ghost use Rattle.live_edge.specs.Naming.{IsFirst, IsFirstFrame, Opens, MayBegin, IsClaim, IsLogonFrame, IsLogon, value_of, is_value};
 
 use fix_fields::{Field, FieldFault, Frame, fields};
 use fix_frames::{Framer, Next};
+use memchr::memchr;
 use std::alloc::Global;
-use venue_words::limits::VENUE;
+use venue_words::limits::{MAX_FRAME_BYTES, SOH, VENUE};
 use venue_words::{Bytes, NoMemory};
+
+/// How a frame begins, up to the digits of its length.
+const OPENING: &[u8] = b"8=FIXT.1.1\x019=";
+
+/// The most digits of a frame's length, with the SOH that ends them.
+const MAX_LENGTH_BYTES: usize = 6;
+
+/// The bytes of a frame beside its content and the digits of its length.
+const FRAME_BYTES: usize = 21;
+
+/// How the first bytes of a connection begin. Telling this looks at no more than a frame's first bytes.
+#[derive(Clone, Copy, Debug, PartialEq, Eq)]
+pub(crate) enum Begun {
+    /// As a frame that is not yet whole.
+    Waits,
+    /// As a frame of so many bytes.
+    Whole { size: usize },
+    /// As no frame.
+    Astray,
+}
 
 /// What the first bytes of a connection begin with.
 #[derive(Drop)]
@@ -67,6 +89,62 @@ fn taken(alloc: Global, framer: &mut Framer) -> Result<First, NoMemory>
     }
 }
 
+/// Whether bytes begin as a frame does, as far as they go.
+fn do_open(early: &[u8]) -> bool
+    ensures { result ≡ true → Opens early.now }
+{
+    let size = early.len().min(OPENING.len());
+    early[..size] == OPENING[..size]
+}
+
+/// The number that digits spell.
+fn number_of(digits: &[u8]) -> Option<usize> {
+    match str::from_utf8(digits) {
+        Ok(digits) => digits.parse::<usize>().ok(),
+        Err(_) => None,
+    }
+}
+
+/// How bytes begin of which the declared length of a frame is known.
+fn begun_with(length: Option<usize>, digits: usize, early: &[u8]) -> Begun
+    requires { Opens early.now }
+    ensures waits { result ≡ IsWaiting → MayBegin early.now }
+    ensures whole { (size : ℕ) → result ≡ IsWhole size → size ≤ length early.now }
+{
+    let Some(length) = length else {
+        return Begun::Astray;
+    };
+    let size = length.saturating_add(digits).saturating_add(FRAME_BYTES);
+    if size > MAX_FRAME_BYTES {
+        Begun::Astray
+    } else if early.len() < size {
+        Begun::Waits
+    } else {
+        Begun::Whole { size }
+    }
+}
+
+/// How the first bytes of a connection begin.
+fn begun(early: &[u8]) -> Begun
+    ensures waits { result ≡ IsWaiting → MayBegin early.now }
+    ensures whole { (size : ℕ) → result ≡ IsWhole size → size ≤ length early.now }
+{
+    if !do_open(early) {
+        return Begun::Astray;
+    }
+    if early.len() <= OPENING.len() {
+        return Begun::Waits;
+    }
+    let rest = &early[OPENING.len()..early.len().min(OPENING.len() + MAX_LENGTH_BYTES)];
+    match memchr(SOH, rest) {
+        Some(digits) => begun_with(number_of(&rest[..digits]), digits, early),
+        None if rest.len() < MAX_LENGTH_BYTES && rest.iter().all(|byte| byte.is_ascii_digit()) => {
+            Begun::Waits
+        }
+        None => Begun::Astray,
+    }
+}
+
 /// The first frame of the first bytes of a connection.
 fn first_frame(alloc: Global, early: &[u8]) -> Result<First, NoMemory>
     ensures { IfOk result (IsFirst early.now) }
@@ -115,17 +193,48 @@ fn logon(alloc: Global, frame: &[u8], names: &[Bytes]) -> Result<Option<usize>, 
     }
 }
 
-/// Whose a connection is, by the bytes that came before its name: their first whole frame says so, and no other.
-pub(crate) fn claimed_by(alloc: Global, early: &[u8], names: &[Bytes]) -> Result<Claim, NoMemory>
+/// The frame that so many of the first bytes of a connection are.
+fn whole_frame(alloc: Global, early: &[u8], size: usize) -> Result<Option<Bytes>, NoMemory>
+    requires { size ≤ length early.now }
+    ensures { IfOk result (λ found. IfSome found (IsFirstFrame early.now)) }
+{
+    match first_frame(alloc, &early[..size])? {
+        First::Frame(frame) if frame.as_slice().len() == size => Ok(Some(frame)),
+        _ => Ok(None),
+    }
+}
+
+/// Whose a connection is whose first frame has so many bytes.
+fn claimed_with(
+    alloc: Global,
+    early: &[u8],
+    size: usize,
+    names: &[Bytes],
+) -> Result<Claim, NoMemory>
+    requires { size ≤ length early.now }
+    ensures waits { result ≢ Ok IsUnclear }
     ensures within { (member : ℕ) → result ≡ Ok (Claims member) → member < length names.now }
     ensures named { (member : ℕ) → result ≡ Ok (Claims member) → IsClaim early.now names.now member }
 {
-    match first_frame(alloc, early)? {
-        First::Frame(frame) => match logon(alloc, frame.as_slice(), names)? {
-            Some(member) => Ok(Claim::Member { member }),
-            None => Ok(Claim::Nobody),
-        },
-        First::Waits => Ok(Claim::Waits),
-        First::TooLong => Ok(Claim::Nobody),
+    let Some(frame) = whole_frame(alloc, early, size)? else {
+        return Ok(Claim::Nobody);
+    };
+    match logon(alloc, frame.as_slice(), names)? {
+        Some(member) => Ok(Claim::Member { member }),
+        None => Ok(Claim::Nobody),
+    }
+}
+
+/// Whose a connection is, by the bytes that came before its name. It begins with the Logon of a member, and with nothing before that.
+/// It waits only while a frame may still come of its bytes, of which no more than the first few are looked at.
+pub(crate) fn claimed_by(alloc: Global, early: &[u8], names: &[Bytes]) -> Result<Claim, NoMemory>
+    ensures within { (member : ℕ) → result ≡ Ok (Claims member) → member < length names.now }
+    ensures named { (member : ℕ) → result ≡ Ok (Claims member) → IsClaim early.now names.now member }
+    ensures waits { result ≡ Ok IsUnclear → MayBegin early.now }
+{
+    match begun(early) {
+        Begun::Whole { size } => claimed_with(alloc, early, size, names),
+        Begun::Waits => Ok(Claim::Waits),
+        Begun::Astray => Ok(Claim::Nobody),
     }
 }
