@@ -115,6 +115,7 @@ pub due_read : (port : ℕ) (answer : Heard) (past : List Event) → ((p : ℕ) 
     → (p : ℕ) → IsDue (state_of (answers.read port answer past) p) (due (answers.read port answer past) p) (all_put (answers.read port answer past))
 due_read port heard.Nothing past h = h
 due_read port heard.Kept past h = h
+due_read port heard.Held past h = h
 due_read port (heard.Pieces member pieces) past h = h
 due_read port (heard.Over why) past h = ended past port h
 
@@ -152,6 +153,7 @@ put_opened opening.Failed past m = refl
 pub put_read : (port : ℕ) (answer : Heard) (past : List Event) (m : ℕ) → all_put (answers.read port answer past) m ≡ all_put past m
 put_read port heard.Nothing past m = refl
 put_read port heard.Kept past m = refl
+put_read port heard.Held past m = refl
 put_read port (heard.Pieces member pieces) past m = refl
 put_read port (heard.Over why) past m = refl
 

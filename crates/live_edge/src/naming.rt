@@ -19,7 +19,7 @@ const OPENING: &[u8] = b"8=FIXT.1.1\x019=";
 /// The most digits of a frame's length, with the SOH that ends them.
 const MAX_LENGTH_BYTES: usize = 6;
 
-/// The bytes of a frame beside its content and the digits of its length.
+/// The bytes of a frame beside those that its length counts and the digits of it.
 const FRAME_BYTES: usize = 21;
 
 /// How the first bytes of a connection begin. Telling this looks at no more than a frame's first bytes.
@@ -105,16 +105,16 @@ fn number_of(digits: &[u8]) -> Option<usize> {
     }
 }
 
-/// How bytes begin of which the declared length of a frame is known.
-fn begun_with(length: Option<usize>, digits: usize, early: &[u8]) -> Begun
+/// How bytes begin that declare a frame of so many bytes of content.
+fn begun_with(content: Option<usize>, digits: usize, early: &[u8]) -> Begun
     requires { Opens early.now }
     ensures waits { result ≡ IsWaiting → MayBegin early.now }
     ensures whole { (size : ℕ) → result ≡ IsWhole size → size ≤ length early.now }
 {
-    let Some(length) = length else {
+    let Some(content) = content else {
         return Begun::Astray;
     };
-    let size = length.saturating_add(digits).saturating_add(FRAME_BYTES);
+    let size = content.saturating_add(digits).saturating_add(FRAME_BYTES);
     if size > MAX_FRAME_BYTES {
         Begun::Astray
     } else if early.len() < size {
@@ -125,7 +125,7 @@ fn begun_with(length: Option<usize>, digits: usize, early: &[u8]) -> Begun
 }
 
 /// How the first bytes of a connection begin.
-fn begun(early: &[u8]) -> Begun
+fn how_begun(early: &[u8]) -> Begun
     ensures waits { result ≡ IsWaiting → MayBegin early.now }
     ensures whole { (size : ℕ) → result ≡ IsWhole size → size ≤ length early.now }
 {
@@ -232,7 +232,7 @@ pub(crate) fn claimed_by(alloc: Global, early: &[u8], names: &[Bytes]) -> Result
     ensures named { (member : ℕ) → result ≡ Ok (Claims member) → IsClaim early.now names.now member }
     ensures waits { result ≡ Ok IsUnclear → MayBegin early.now }
 {
-    match begun(early) {
+    match how_begun(early) {
         Begun::Whole { size } => claimed_with(alloc, early, size, names),
         Begun::Waits => Ok(Claim::Waits),
         Begun::Astray => Ok(Claim::Nobody),
