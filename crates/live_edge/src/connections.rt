@@ -3,10 +3,12 @@ ghost use Rattle.std.specs.Prelude.{cond, ◌==◌, ◌≡◌, ◌≢◌, ◌≤
 ghost use Rattle.venue_words.specs.Causes.{HasCause, Rose};
 ghost use Rattle.ports.specs.Slots.{kept_at};
 ghost use Rattle.live_edge.specs.Naming.{IsClaim};
+ghost use Rattle.live_edge.specs.Access.{IsAllowed};
 ghost use Rattle.live_edge.specs.Stories.{beginning};
 ghost use Rattle.live_edge.specs.Joins.{Joined, all_put};
 ghost use Rattle.live_edge.specs.Rounds.{Keeps, IsOfPieces, IsNamedOfPieces};
 
+use crate::access::Access;
 use crate::outside::Outside;
 use crate::setup::Setup;
 use crate::story::{Step, Story};
@@ -362,20 +364,24 @@ impl<O: Outside> Connections<O> {
         }
     }
 
-    /// Names a port's connection as a member's, whose Logon it begins with, and hands on all that came of it.
+    /// Names a port's connection as a member's, whose Logon it begins with and who may log on from there, and hands on what came
+    /// of it.
     pub(crate) fn name(
         &mut self,
         setup: &Setup,
+        access: &Access,
         port: usize,
         member: usize,
     ) -> Result<Naming, Failed>
         requires claim { IsClaim (kept_at self.old.table port) setup.now.members member }
+        requires allowed { IsAllowed access.now member (O.origin self.old.outside port) }
         ensures keeps { Keeps self.old.story.tale self.new.story.tale }
         ensures joined { Joined self.old.story.tale.past self.old.table (O.came self.old.outside) (O.went self.old.outside) → Joined self.new.story.tale.past self.new.table (O.came self.new.outside) (O.went self.new.outside) }
         ensures cause { HasCause (O.faults self.old.outside + self.old.faults) (O.faults self.new.outside + self.new.faults) result }
         ensures pieces { IfOk result IsNamedOfPieces }
     {
         let _ = setup;
+        let _ = access;
         match self.table.name(&mut self.outside, port, member) {
             Ok(naming) => {
                 self.story = self.story.then(&Step::Named(port, member, &naming));

@@ -6,15 +6,18 @@ ghost use Rattle.venue_words.specs.Causes.{HasCause};
 ghost use Rattle.std.specs.Prelude.{◌≤ℤ◌};
 ghost use Rattle.ports.specs.Slots.{kept_at};
 ghost use Rattle.live_edge.specs.Naming.{IsClaim};
+ghost use Rattle.live_edge.specs.Access.{IsAllowed};
 ghost use Rattle.live_edge.specs.Joins.{Joined, all_put};
 ghost use Rattle.live_edge.specs.Rounds.{Keeps, IsInOrder, IsMarked};
 
+use crate::access::Access;
 use crate::batch::{push_all, push_copy, push_moment_line, push_open, push_pieces};
 use crate::connections::Connections;
 use crate::naming::{Claim, claimed_by};
 use crate::outside::Outside;
 use crate::setup::Setup;
 use crate::status::status;
+use crate::turns::Turns;
 use crate::words::{Word, read_word};
 use io_edge::{Clock, Failed};
 use live_core::Going;
@@ -45,6 +48,7 @@ pub(crate) struct Desk<O: Outside, C: Clock> {
     pub(crate) connections: Connections<O>,
     pub(crate) clock: C,
     pub(crate) setup: Setup,
+    pub(crate) access: Access,
     pub(crate) room: Vec<u8>,
     pub(crate) word: Vec<u8>,
     /// The last moment that was brought.
@@ -56,6 +60,10 @@ pub(crate) struct Desk<O: Outside, C: Clock> {
     pub(crate) stop: bool,
     /// The round in which each member was last named, by how many were left.
     pub(crate) named: Vec<u64>,
+    /// How often each member's name went from one connection to another.
+    pub(crate) turns: Vec<Turns>,
+    /// The moment of this round.
+    pub(crate) now: u64,
     /// How many rounds are left.
     pub(crate) left: u64,
     pub(crate) rounds: u64,
@@ -143,9 +151,78 @@ impl<O: Outside, C: Clock> Desk<O, C> {
         Ok(())
     }
 
+    /// Notes that a new connection took a member's name from one that had it.
+    fn note_turn(&mut self, member: usize)
+        ensures keeps { Keeps self.old.connections.story.tale self.new.connections.story.tale }
+        ensures joined { Joined self.old.connections.story.tale.past self.old.connections.table (O.came self.old.connections.outside) (O.went self.old.connections.outside) → Joined self.new.connections.story.tale.past self.new.connections.table (O.came self.new.connections.outside) (O.went self.new.connections.outside) }
+        ensures left { self.new.left ≡ self.old.left }
+        ensures setup { self.new.setup ≡ self.old.setup }
+        ensures last { self.new.last ≡ self.old.last }
+        ensures later { O.faults self.old.connections.outside + self.old.connections.faults ≤ O.faults self.new.connections.outside + self.new.connections.faults }
+    {
+        if member < self.turns.len() {
+            self.turns[member].note(self.now);
+        }
+        self.connections
+            .outside
+            .log(b"a member's connection is ended: a new one has his name");
+    }
+
+    /// Whether a new connection may have a member's name now.
+    fn may_come(&self, member: usize) -> bool {
+        match self.turns.get(member) {
+            Some(turns) => {
+                turns.may_come(self.now) || self.connections.table.port_of(member).is_none()
+            }
+            None => true,
+        }
+    }
+
     /// Names a port's connection as the member's whose Logon it begins with: his old connection ends, and all that came of the new
     /// one is handed on behind an `O` line.
     fn name(
+        &mut self,
+        port: usize,
+        member: usize,
+        lines: &mut Vec<Bytes>,
+        body: &mut Vec<Bytes>,
+    ) -> Result<(), Failed>
+        requires claim { IsClaim (kept_at self.old.connections.table port) self.old.setup.members member }
+        requires allowed { IsAllowed self.old.access member (O.origin self.old.connections.outside port) }
+        requires lines { All IsShortLine lines.old.items }
+        requires body { All IsShortLine body.old.items }
+        ensures lines { OnOk result (All IsShortLine lines.new.items) }
+        ensures body { OnOk result (All IsShortLine body.new.items) }
+        ensures keeps { Keeps self.old.connections.story.tale self.new.connections.story.tale }
+        ensures joined { Joined self.old.connections.story.tale.past self.old.connections.table (O.came self.old.connections.outside) (O.went self.old.connections.outside) → Joined self.new.connections.story.tale.past self.new.connections.table (O.came self.new.connections.outside) (O.went self.new.connections.outside) }
+        ensures left { self.new.left ≡ self.old.left }
+        ensures setup { self.new.setup ≡ self.old.setup }
+        ensures last { self.new.last ≡ self.old.last }
+        ensures cause { HasCause (O.faults self.old.connections.outside + self.old.connections.faults) (O.faults self.new.connections.outside + self.new.connections.faults) result }
+    {
+        if let Naming::Named { old, pieces } = self
+            .connections
+            .name(&self.setup, &self.access, port, member)?
+        {
+            let alloc = self.connections.alloc;
+            if old.is_some() {
+                self.note_turn(member);
+                let pushed = push_open(alloc, &self.setup, member, lines);
+                self.connections.kept(pushed)?;
+            }
+            let pushed = push_open(alloc, &self.setup, member, lines);
+            self.connections.kept(pushed)?;
+            let pushed = push_pieces(alloc, &self.setup, member, &pieces, body);
+            self.connections.kept(pushed)?;
+            if member < self.named.len() {
+                self.named[member] = self.left;
+            }
+        }
+        Ok(())
+    }
+
+    /// Names a port's connection as the member's whose Logon it begins with, where he may log on from there, and ends it where not.
+    fn welcome(
         &mut self,
         port: usize,
         member: usize,
@@ -164,20 +241,23 @@ impl<O: Outside, C: Clock> Desk<O, C> {
         ensures last { self.new.last ≡ self.old.last }
         ensures cause { HasCause (O.faults self.old.connections.outside + self.old.connections.faults) (O.faults self.new.connections.outside + self.new.connections.faults) result }
     {
-        if let Naming::Named { old, pieces } = self.connections.name(&self.setup, port, member)? {
-            let alloc = self.connections.alloc;
-            if old.is_some() {
-                let pushed = push_open(alloc, &self.setup, member, lines);
-                self.connections.kept(pushed)?;
-            }
-            let pushed = push_open(alloc, &self.setup, member, lines);
-            self.connections.kept(pushed)?;
-            let pushed = push_pieces(alloc, &self.setup, member, &pieces, body);
-            self.connections.kept(pushed)?;
-            if member < self.named.len() {
-                self.named[member] = self.left;
-            }
+        let origin = self.connections.outside.origin(port);
+        if !self.access.allows(member, origin) {
+            self.connections.dismiss(
+                port,
+                "a connection is ended: its member may not log on from there",
+            );
+            return Ok(());
         }
+        if !self.may_come(member) {
+            self.connections.dismiss(
+                port,
+                "a connection is ended: its member's name was taken ten times within a minute, and stays where it is for a minute",
+            );
+            return Ok(());
+        }
+        self.name(port, member, lines, body)?;
+        self.connections.note_fresh(port, false);
         Ok(())
     }
 
@@ -225,9 +305,7 @@ impl<O: Outside, C: Clock> Desk<O, C> {
                     self.busy = true;
                     return Ok(());
                 }
-                self.name(port, member, lines, body)?;
-                self.connections.note_fresh(port, false);
-                Ok(())
+                self.welcome(port, member, lines, body)
             }
             Err(_) => Err(self.connections.fail()),
         }
@@ -457,6 +535,7 @@ impl<O: Outside, C: Clock> Desk<O, C> {
     {
         self.wait()?;
         let now = since(self.clock.now());
+        self.now = now;
         self.connections.let_in(now)?;
         self.connections.end_late(now);
         self.connections.flush_all();

@@ -3,10 +3,12 @@ ghost use Rattle.std.specs.Prelude.{◌≡◌, [], ℕ, IfOk};
 ghost use Rattle.venue_words.specs.Conditions.{IsConfig};
 ghost use Rattle.live_edge.specs.Joins.{IsRun, frames_of};
 
+use crate::access::Access;
 use crate::connections::Connections;
 use crate::desk::{Desk, MAX_READ_BYTES};
 use crate::outside::Outside;
 use crate::setup::Setup;
+use crate::turns::Turns;
 use io_edge::{Clock, Failed};
 use live_core::{Edge, Going};
 use script_text::words::script_moment;
@@ -57,12 +59,14 @@ fn last_moment(had: &[Bytes], begin: i64) -> i64 {
 }
 
 impl<O: Outside + Drop, C: Clock + Drop> LiveEdge<O, C> {
-    /// An edge before its first round. Time begins at the moment of the config, and goes on from the journal's last.
+    /// An edge before its first round, at which members log on as the access lets them. Time begins at the moment of the config, and
+    /// goes on from the journal's last.
     pub fn new(
         alloc: Global,
         outside: O,
         clock: C,
         config: Config,
+        access: Access,
     ) -> Result<LiveEdge<O, C>, AllocError>
         requires config { IsConfig config }
         requires fresh { (port : ℕ) → O.went outside port ≡ [] }
@@ -78,6 +82,7 @@ impl<O: Outside + Drop, C: Clock + Drop> LiveEdge<O, C> {
                 connections,
                 clock,
                 setup: Setup::new(config),
+                access,
                 room: vec![in alloc; 0; MAX_READ_BYTES]?,
                 word: Vec::new(alloc),
                 last: begin,
@@ -85,6 +90,8 @@ impl<O: Outside + Drop, C: Clock + Drop> LiveEdge<O, C> {
                 busy: false,
                 stop: false,
                 named: vec![in alloc; u64::MAX; members]?,
+                turns: vec![in alloc; Turns::new(); members]?,
+                now: 0,
                 left: u64::MAX,
                 rounds: 0,
                 lines: 0,

@@ -2,6 +2,7 @@
 //! connections. The sockets are an `Outside`, which this crate knows by its contract alone.
 #![tactic(auto)]
 
+mod access;
 mod batch;
 mod connections;
 mod desk;
@@ -14,8 +15,10 @@ mod setup;
 mod status;
 mod story;
 mod transcripts;
+mod turns;
 mod words;
 
+pub use access::{Access, Network, Origin, Rule, address_of};
 pub use edge::LiveEdge;
 pub use file_edge::FileEdge;
 pub use outside::Outside;

@@ -1,12 +1,21 @@
 //! What a live venue needs of the outside.
 ghost use Rattle.std.specs.Prelude.{◌≡◌, ℕ};
 ghost use Rattle.venue_words.specs.Causes.{HasCause};
+ghost use Rattle.live_edge.specs.declared.access.Origin.{Origin};
 
+use crate::access::Origin;
 use io_edge::Failed;
 use ports::Ports;
 
 /// The members' connections, the operators, and the log. No call but `wait` waits.
 pub trait Outside: Ports {
+    /// Where the last connection of each port came in.
+    ghost origin: { Self → ℕ → Origin };
+
+    /// Where the last connection of a port came in.
+    fn origin(&self, port: usize) -> Origin
+        ensures { result ≡ Self.origin self.now port };
+
     /// Waits until a port or an operator may have something to do, at most so many milliseconds. No byte of a member moves.
     fn wait(&mut self, most_milliseconds: u64) -> Result<(), Failed>
         ensures came { (q : ℕ) → Self.came self.new q ≡ Self.came self.old q }

@@ -2,18 +2,20 @@
 ghost use Rattle.std.specs.Prelude.{◌≡◌, ℕ, [], IfOk};
 ghost use Rattle.venue_words.specs.Conditions.{IsConfig};
 
+use crate::access::{Listed, is_of_this_machine, read_access};
 use crate::config::{Head, read_head};
 use crate::exit::Exit;
 use crate::words::{Day, Doors};
 use day_journal::FileDisk;
 use io_edge::RealClock;
 use live_core::{DayEnd, serve_day};
-use live_edge::LiveEdge;
+use live_edge::{Access, LiveEdge};
 use live_machine::{BookMachine, PhaseMachine};
 use ports::Ports;
 use socket_ports::{Door, DoorFault, Sockets};
+use std::alloc::AllocError;
 use std::sync::ledger::{Blank, Ledger};
-use venue_words::Steps;
+use venue_words::{Config, Steps};
 
 /// Says why a door is not open.
 fn tell_door(rt: &HostRuntime, word: &str, fault: DoorFault) -> Exit {
@@ -23,14 +25,63 @@ fn tell_door(rt: &HostRuntime, word: &str, fault: DoorFault) -> Exit {
     }
 }
 
+/// Who may log on from where. Without a file members are let in from this machine alone.
+fn access_of(rt: &HostRuntime, doors: Doors<'_>, config: &Config) -> Result<Listed, Exit> {
+    if let Some(file) = doors.access {
+        return read_access(rt, file, config, doors.members);
+    }
+    if !is_of_this_machine(doors.members) {
+        return Err(Exit::OpenDoor);
+    }
+    match eprintln!(rt;
+        "peglive: members are let in from this machine alone, where any program may log on as any of them; --access FILE says who may from where"
+    ) {
+        Ok(()) => Ok(Listed {
+            access: Access::Anywhere,
+            doors: Vec::new(rt.alloc()),
+        }),
+        Err(_) => Err(Exit::Unwritten),
+    }
+}
+
+/// Opens the door of all members, and the further ones.
+fn open_doors(rt: &HostRuntime, members: &str, listed: &Listed) -> Result<Vec<Door>, Exit> {
+    let mut doors = Vec::new(rt.alloc());
+    match Door::at_address(rt, members) {
+        Ok(door) => keep_door(&mut doors, door)?,
+        Err(fault) => return Err(tell_door(rt, members, fault)),
+    }
+    for own in listed.doors.as_slice() {
+        match Door::listen(rt, own.address) {
+            Ok(door) => keep_door(&mut doors, door)?,
+            Err(fault) => {
+                return match eprintln!(rt; "peglive: {}: {fault}", own.address) {
+                    Ok(()) => Err(Exit::NoDoor),
+                    Err(_) => Err(Exit::Unwritten),
+                };
+            }
+        }
+    }
+    Ok(doors)
+}
+
+/// One door more.
+fn keep_door(doors: &mut Vec<Door>, door: Door) -> Result<(), Exit> {
+    match doors.push(door) {
+        Ok(()) => Ok(()),
+        Err(AllocError) => Err(Exit::NoMemory),
+    }
+}
+
 /// The sockets of a day, whose doors are open.
-fn sockets_of<'a>(rt: &'a HostRuntime, doors: Doors<'_>) -> Result<Sockets<'a, HostRuntime>, Exit>
+fn sockets_of<'a>(
+    rt: &'a HostRuntime,
+    doors: Doors<'_>,
+    listed: &Listed,
+) -> Result<Sockets<'a, HostRuntime>, Exit>
     ensures unused { IfOk result (λ sockets. (port : ℕ) → ⟦<Sockets<'a, HostRuntime> as Ports>⟧.went sockets port ≡ []) }
 {
-    let members = match Door::at_address(rt, doors.members) {
-        Ok(door) => door,
-        Err(fault) => return Err(tell_door(rt, doors.members, fault)),
-    };
+    let members = open_doors(rt, doors.members, listed)?;
     let desk = match Door::at(rt, doors.desk) {
         Ok(door) => door,
         Err(fault) => return Err(tell_door(rt, doors.desk, fault)),
@@ -49,11 +100,22 @@ pub fn serve<L: Ledger>(rt: &HostRuntime, day: Day<'_>, doors: Doors<'_>, blank:
         Ok(head) => head,
         Err(exit) => return exit,
     };
-    let sockets = match sockets_of(rt, doors) {
+    let listed = match access_of(rt, doors, &config) {
+        Ok(listed) => listed,
+        Err(exit) => return exit,
+    };
+    let sockets = match sockets_of(rt, doors, &listed) {
         Ok(sockets) => sockets,
         Err(exit) => return exit,
     };
-    let Ok(mut edge) = LiveEdge::new(rt.alloc(), sockets, RealClock::new(rt), config) else {
+    let made = LiveEdge::new(
+        rt.alloc(),
+        sockets,
+        RealClock::new(rt),
+        config,
+        listed.access,
+    );
+    let Ok(mut edge) = made else {
         return Exit::NoMemory;
     };
     let mut machine: BookMachine<L> = PhaseMachine::new(rt.alloc(), Steps::start(blank));

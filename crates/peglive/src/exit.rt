@@ -9,8 +9,12 @@ pub enum Exit {
     Done,
     /// The words are none that the program knows.
     BadWords,
+    /// Members of other machines would be let in, and nothing says who may log on from where.
+    OpenDoor,
     /// The config will not do.
     BadConfig,
+    /// The file of who may log on from where will not do.
+    BadAccess,
     /// A file could not be read.
     Unread,
     /// Output could not be written.
@@ -30,8 +34,8 @@ impl Exit {
     pub fn code(self) -> u8 {
         match self {
             Exit::Done | Exit::Day(DayEnd::Lived(LiveEnd::Stopped)) => 0,
-            Exit::BadWords => 2,
-            Exit::BadConfig | Exit::Day(DayEnd::BadHead | DayEnd::OtherHead) => 3,
+            Exit::BadWords | Exit::OpenDoor => 2,
+            Exit::BadConfig | Exit::BadAccess | Exit::Day(DayEnd::BadHead | DayEnd::OtherHead) => 3,
             Exit::Day(DayEnd::Lived(LiveEnd::Full) | DayEnd::Unkept(LiveEnd::Full)) => 4,
             Exit::Unread => 5,
             Exit::Unwritten => 6,
@@ -74,7 +78,11 @@ impl fmt::Display for Exit {
             Exit::BadWords => f.write_str(
                 "usage: peglive CONFIG JOURNAL ADDRESS DESK, or peglive check CONFIG; see peglive --help",
             ),
+            Exit::OpenDoor => f.write_str(
+                "members of other machines are let in only with --access FILE, which says who may log on from where: write that file, or listen at an address of this machine, as 127.0.0.1:7001",
+            ),
             Exit::BadConfig => f.write_str("the config will not do"),
+            Exit::BadAccess => f.write_str("the access file will not do"),
             Exit::Unread => f.write_str("a file could not be read"),
             Exit::Unwritten => f.write_str("output could not be written"),
             Exit::NoDoor => f.write_str("not listening"),

@@ -4,6 +4,7 @@
 
 ghost use Rattle.std.specs.Prelude.{◌≡◌};
 
+mod access;
 mod check;
 mod config;
 mod day;

@@ -22,11 +22,12 @@ pub struct Day<'a> {
     pub journal: &'a str,
 }
 
-/// Where members connect, and where operators do.
+/// Where members connect, and where operators do, and the file of who may log on from where, if there is one.
 #[derive(Clone, Copy, Debug)]
 pub struct Doors<'a> {
     pub members: &'a str,
     pub desk: &'a str,
+    pub access: Option<&'a str>,
 }
 
 /// What the words mean, for `--help`.
@@ -40,7 +41,13 @@ the same words.
                                         socket) or an address of this machine
   peglive CONFIG JOURNAL - FILE         works the lines of FILE without sockets, and
                                         prints what members would be sent
-  peglive check CONFIG                  says what is wrong with a config, or what it takes";
+  peglive check CONFIG                  says what is wrong with a config, or what it takes
+
+Without --access members are let in from this machine alone, and any program on it
+may log on as any of them. With --access FILE a member logs on as a line of FILE says:
+
+  NAME FROM NETWORK                     at ADDRESS, from 10.1.0.0/16 or fd00::/8, say
+  NAME AT ADDRESS                       at this further address, where nobody else may";
 
 fn word<'a>(alloc: Global, name: &'static str, help: &'static str) -> Arg<'a> {
     Arg::new(alloc, name).help(help)
@@ -60,7 +67,13 @@ pub fn program<'a>(alloc: Global) -> Result<Command<'a>, AllocError> {
             "The day's journal, which is made where it is not there",
         ))?
         .arg(word(alloc, "ADDRESS", "Where members connect"))?
-        .arg(word(alloc, "DESK", "Where operators connect"))
+        .arg(word(alloc, "DESK", "Where operators connect"))?
+        .arg(
+            Arg::new(alloc, "access")
+                .long("access")
+                .value_name("FILE")
+                .help("Who may log on from where"),
+        )
 }
 
 /// What is asked.
@@ -77,7 +90,15 @@ pub fn question_of<'a>(matches: &ArgMatches<'a>) -> Question<'a> {
             Question::Work(Day { config, journal }, file)
         }
         (Some(config), Some(journal), Some(members), Some(desk)) => {
-            Question::Serve(Day { config, journal }, Doors { members, desk })
+            let access = matches.get_str("access");
+            Question::Serve(
+                Day { config, journal },
+                Doors {
+                    members,
+                    desk,
+                    access,
+                },
+            )
         }
         _ => Question::Unclear,
     }

@@ -1,6 +1,7 @@
 -- What the ports of a row have given and taken.
 use Rattle.std.specs.Prelude.{ℕ, Bool, true, false, Option, None, Some, List, [], is_some, slice_get}
 use Rattle.socket_ports.specs.declared.place.Place.{Place}
+use Rattle.live_edge.specs.declared.access.Origin.{Origin}
 
 abbrev pub given : Option Place → List ℕ
 given None = []
@@ -21,6 +22,13 @@ is_over (Some place) = place.over
 abbrev pub is_idle : Option Place → Bool
 is_idle None = true
 is_idle (Some place) = place.idle
+
+abbrev pub origin_of : Option Place → Origin
+origin_of None = record { door = 0; address = 0 }
+origin_of (Some place) = place.origin
+
+abbrev pub origin_in : List Place → ℕ → Origin
+origin_in places port = origin_of (slice_get places port)
 
 abbrev pub came_in : List Place → ℕ → List ℕ
 came_in places port = given (slice_get places port)

@@ -1,4 +1,5 @@
 //! Where connections are let in.
+use live_edge::address_of;
 use mio::net::{TcpListener, TcpStream, UnixListener, UnixStream};
 use mio::{Interest, Registry, Token};
 use std::fs::{Files, Permissions};
@@ -54,14 +55,19 @@ pub enum Moved {
 }
 
 impl Door {
-    /// Listens at an address.
+    /// Listens at the address that a word says.
     pub fn at_address<R: Net>(rt: &R, address: &str) -> Result<Door, DoorFault> {
         match address.parse::<SocketAddr>() {
-            Ok(address) => match TcpListener::bind(rt, address) {
-                Ok(listener) => Ok(Door::Tcp(listener)),
-                Err(error) => Err(DoorFault::System(error)),
-            },
+            Ok(address) => Door::listen(rt, address),
             Err(_) => Err(DoorFault::NoAddress),
+        }
+    }
+
+    /// Listens at an address.
+    pub fn listen<R: Net>(rt: &R, address: SocketAddr) -> Result<Door, DoorFault> {
+        match TcpListener::bind(rt, address) {
+            Ok(listener) => Ok(Door::Tcp(listener)),
+            Err(error) => Err(DoorFault::System(error)),
         }
     }
 
@@ -101,17 +107,17 @@ impl Door {
         }
     }
 
-    /// The next connection that asks; `WouldBlock` where none does.
-    pub(crate) fn accept(&self) -> io::Result<Stream> {
+    /// The next connection that asks, and the address that it comes from, 0 at a path; `WouldBlock` where none asks.
+    pub(crate) fn accept(&self) -> io::Result<(Stream, u128)> {
         match self {
             Door::Tcp(listener) => {
-                let (stream, _) = listener.accept()?;
+                let (stream, from) = listener.accept()?;
                 stream.set_nodelay(true)?;
-                Ok(Stream::Tcp(stream))
+                Ok((Stream::Tcp(stream), address_of(from.ip())))
             }
             Door::Unix(listener) => {
                 let (stream, _) = listener.accept()?;
-                Ok(Stream::Unix(stream))
+                Ok((Stream::Unix(stream), 0))
             }
         }
     }

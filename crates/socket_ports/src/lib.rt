@@ -13,4 +13,5 @@ mod seats;
 mod sockets;
 
 pub use door::{Door, DoorFault};
+pub use seats::MAX_DOORS;
 pub use sockets::Sockets;

@@ -1,14 +1,14 @@
 //! The sockets as the outside of a live day.
 ghost use Rattle.std.specs.Prelude.{◌≡◌, ◌≤◌, ℕ, OnErr};
 ghost use Rattle.venue_words.specs.Causes.{HasCause};
-ghost use Rattle.socket_ports.specs.Places.{came_in, went_in, up_in};
+ghost use Rattle.socket_ports.specs.Places.{came_in, went_in, up_in, origin_in};
 
 use crate::operator::Operator;
 use crate::seats::{MAX_OPERATORS, OPERATORS, Seats};
 use crate::sockets::Sockets;
 use fix_write::push_moment;
 use io_edge::{Clock as _, Failed, RealClock};
-use live_edge::Outside;
+use live_edge::{Origin, Outside};
 use mio::{Events, Token};
 use std::alloc::{AllocError, Global};
 use std::io::Eprint;
@@ -42,7 +42,7 @@ impl<'a, R: Net + Eprint + Clock> Sockets<'a, R> {
     {
         self.waits = self.waits.wrapping_add(1);
         if self.waits % RETRY_WAITS == 0 {
-            self.seats.members_ask = true;
+            self.seats.asks.fill(true);
             self.seats.desk_asks = true;
         }
         let most = Duration::from_millis(most_milliseconds);
@@ -83,7 +83,7 @@ fn admit_operators<R: Net + Eprint + Clock>(sockets: &mut Sockets<'_, R>) -> Res
         let Some(index) = sockets.free_operator()? else {
             return Ok(());
         };
-        let Ok(mut stream) = sockets.desk.accept() else {
+        let Ok((mut stream, _)) = sockets.desk.accept() else {
             sockets.seats.desk_asks = false;
             return Ok(());
         };
@@ -166,6 +166,18 @@ fn tell<R: Net + Eprint + Clock>(
 }
 
 impl<'a, R: Net + Eprint + Clock> Outside for Sockets<'a, R> {
+    ghost origin = { λ s. origin_in s.seats.places.items };
+
+    fn origin(&self, port: usize) -> Origin {
+        match self.seats.places.get(port) {
+            Some(place) => place.origin(),
+            None => Origin {
+                door: 0,
+                address: 0,
+            },
+        }
+    }
+
     fn wait(&mut self, most_milliseconds: u64) -> Result<(), Failed> {
         self.wait_for(most_milliseconds)
     }

@@ -6,12 +6,15 @@ ghost use Rattle.socket_ports.specs.Flows.{unused};
 
 use crate::connection::Connection;
 use crate::flow::{Flow, Move};
+use live_edge::Origin;
 use ports::Came;
 
 /// A port.
 #[derive(Drop)]
 pub(crate) struct Place {
     connection: Option<Connection>,
+    /// Where the connection came in.
+    origin: Origin,
     flow: Flow,
     /// The other side has said that it sends no more.
     over: bool,
@@ -21,7 +24,8 @@ pub(crate) struct Place {
 
 impl Place {
     /// A port with this connection, or none.
-    pub(crate) fn new(connection: Option<Connection>) -> Place
+    pub(crate) fn new(connection: Option<Connection>, origin: Origin) -> Place
+        ensures origin { result.origin ≡ origin }
         ensures up { is_some result.connection ≡ is_some connection }
         ensures flow { result.flow.moved ≡ unused }
         ensures over { result.over ≡ false }
@@ -29,10 +33,18 @@ impl Place {
     {
         Place {
             connection,
+            origin,
             flow: Flow::new(),
             over: false,
             idle: true,
         }
+    }
+
+    /// Where the connection came in.
+    pub(crate) fn origin(&self) -> Origin
+        ensures { result ≡ self.now.origin }
+    {
+        self.origin
     }
 
     /// The system told of a change.

@@ -1,47 +1,51 @@
 //! Who sits where, and what the system told of it.
-ghost use Rattle.std.specs.Prelude.{◌≡◌, ◌≢◌, ◌≤◌, ◌<◌, ℕ, [], None, Some, true, length, IfSome, OnOk, OnErr};
+ghost use Rattle.std.specs.Prelude.{◌≡◌, ◌≢◌, ◌≤◌, ◌<◌, ℕ, [], None, Some, true, length, IfOk, IfSome, OnOk, OnErr};
 ghost use Rattle.ports.specs.declared.ports.Came.TheVariants.{Nothing as NothingCame};
 ghost use Rattle.ports.specs.Calls.{Gives, IsTold, Took};
-ghost use Rattle.socket_ports.specs.Places.{came_in, went_in, up_in, over_in, idle_in};
+ghost use Rattle.socket_ports.specs.Places.{came_in, went_in, up_in, over_in, idle_in, origin_in};
 
 use crate::connection::Connection;
 use crate::operator::Operator;
 use crate::place::Place;
+use live_edge::Origin;
 use ports::Came;
 use std::alloc::{AllocError, Global};
 
-/// The tokens of the members' door, and of the operators'.
-pub(crate) const MEMBERS: usize = 0;
-
+/// The token of the operators' door.
 pub(crate) const DESK: usize = 1;
+
+/// The most doors of members.
+pub const MAX_DOORS: usize = 257;
 
 /// The most operators at a time.
 pub(crate) const MAX_OPERATORS: usize = 64;
 
-/// The first token of an operator's connection, and of a port.
+/// The first token of an operator's connection, of a members' door, and of a port.
 pub(crate) const OPERATORS: usize = 2;
 
-pub(crate) const PORTS: usize = 66;
+pub(crate) const DOORS: usize = 66;
+
+pub(crate) const PORTS: usize = 323;
 
 /// The ports, the operators, and whether a connection may ask at each door.
 #[derive(Drop)]
 pub(crate) struct Seats {
-    pub(crate) members_ask: bool,
+    pub(crate) asks: Vec<bool>,
     pub(crate) desk_asks: bool,
     pub(crate) places: Vec<Place>,
     pub(crate) operators: Vec<Option<Operator>>,
 }
 
 impl Seats {
-    pub(crate) fn new(alloc: Global) -> Seats
-        ensures { result.places.items ≡ [] }
+    pub(crate) fn new(alloc: Global, doors: usize) -> Result<Seats, AllocError>
+        ensures { IfOk result (λ seats. seats.places.items ≡ []) }
     {
-        Seats {
-            members_ask: true,
+        Ok(Seats {
+            asks: vec![in alloc; true; doors]?,
             desk_asks: true,
             places: Vec::new(alloc),
             operators: Vec::new(alloc),
-        }
+        })
     }
 
     /// Notes what the system told of.
@@ -50,13 +54,15 @@ impl Seats {
         ensures went { (q : ℕ) → went_in self.new.places.items q ≡ went_in self.old.places.items q }
         ensures up { (q : ℕ) → up_in self.new.places.items q ≡ up_in self.old.places.items q }
     {
-        if token == MEMBERS {
-            self.members_ask = true;
-        } else if token == DESK {
+        if token < OPERATORS {
             self.desk_asks = true;
-        } else if token < PORTS {
+        } else if token < DOORS {
             if let Some(Some(operator)) = self.operators.get_mut(token - OPERATORS) {
                 operator.note(readable, writable, ends);
+            }
+        } else if token < PORTS {
+            if let Some(asks) = self.asks.get_mut(token - DOORS) {
+                *asks = true;
             }
         } else {
             note_port(&mut self.places, token - PORTS, readable, writable, ends);
@@ -69,8 +75,10 @@ pub(crate) fn seat(
     places: &mut Vec<Place>,
     port: usize,
     connection: Connection,
+    origin: Origin,
 ) -> Result<(), AllocError>
     requires next { port ≤ length places.old.items }
+    ensures origin { OnOk result (origin_in places.new.items port ≡ origin) }
     ensures fresh_came { OnOk result (came_in places.new.items port ≡ []) }
     ensures fresh_went { OnOk result (went_in places.new.items port ≡ []) }
     ensures err { OnErr result (places.new.items ≡ places.old.items) }
@@ -79,7 +87,7 @@ pub(crate) fn seat(
     ensures up { (q : ℕ) → q ≢ port → up_in places.new.items q ≡ up_in places.old.items q }
     ensures over { (q : ℕ) → q ≢ port → over_in places.new.items q ≡ over_in places.old.items q }
 {
-    let place = Place::new(Some(connection));
+    let place = Place::new(Some(connection), origin);
     if port < places.len() {
         places[port] = place;
         return Ok(());

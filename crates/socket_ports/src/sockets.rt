@@ -6,8 +6,9 @@ ghost use Rattle.socket_ports.specs.Places.{came_in, went_in, up_in, over_in, id
 use crate::connection::Connection;
 use crate::door::{Door, Stream};
 use crate::operator::Operator;
-use crate::seats::{DESK, MEMBERS, PORTS, Seats, read_at, rest, seat, write_at};
+use crate::seats::{DESK, DOORS, PORTS, Seats, read_at, rest, seat, write_at};
 use io_edge::Failed;
+use live_edge::Origin;
 use mio::{Events, Poll, Token};
 use ports::{Came, Ports};
 use std::alloc::{AllocError, Global};
@@ -20,46 +21,52 @@ const EVENTS: usize = 1_024;
 /// After so many waits a door that failed is tried again.
 const RETRY_WAITS: u32 = 64;
 
-/// The sockets of a live day: a door for members, with a connection at each port, and a door for operators.
+/// The sockets of a live day: doors for members, with a connection at each port, and a door for operators.
 #[derive(Drop)]
 pub struct Sockets<'a, R: Net + Eprint> {
     pub(crate) rt: &'a R,
     pub(crate) alloc: Global,
     pub(crate) poll: Poll,
     pub(crate) events: Events,
-    pub(crate) members: Door,
+    pub(crate) doors: Vec<Door>,
     pub(crate) desk: Door,
     pub(crate) seats: Seats,
     /// Waits so far, by which a door that failed is tried again.
     pub(crate) waits: u32,
     /// Whose word is taken next.
     pub(crate) turn: usize,
+    /// The door that is looked at next.
+    pub(crate) door: usize,
     pub(crate) faults: u64,
 }
 
 impl<'a, R: Net + Eprint> Sockets<'a, R> {
-    /// Over two doors that are open.
+    /// Over doors that are open: the first for all members, the others by their number for those whom a rule lets in there.
     pub fn new(
         rt: &'a R,
         alloc: Global,
-        mut members: Door,
+        mut doors: Vec<Door>,
         mut desk: Door,
     ) -> io::Result<Sockets<'a, R>>
         ensures unused { IfOk result (λ sockets. (port : ℕ) → ⟦<Sockets<'a, R> as Ports>⟧.went sockets port ≡ []) }
     {
         let poll = Poll::new(rt)?;
-        members.register(poll.registry(), Token(MEMBERS))?;
+        for (index, door) in doors.iter_mut().enumerate() {
+            door.register(poll.registry(), Token(DOORS.saturating_add(index)))?;
+        }
+        let seats = Seats::new(alloc, doors.len())?;
         desk.register(poll.registry(), Token(DESK))?;
         Ok(Sockets {
             rt,
             alloc,
             poll,
             events: Events::with_capacity(alloc, EVENTS)?,
-            members,
+            doors,
             desk,
-            seats: Seats::new(alloc),
+            seats,
             waits: 0,
             turn: 0,
+            door: 0,
             faults: 0,
         })
     }
@@ -73,8 +80,49 @@ impl<'a, R: Net + Eprint> Sockets<'a, R> {
         Failed
     }
 
+    /// The next connection that asks at a door, and where it came in.
+    fn ask_at(&mut self, door: usize) -> Result<Option<(Stream, Origin)>, Failed>
+        ensures places { self.new.seats.places ≡ self.old.seats.places }
+        ensures cause { HasCause self.old.faults self.new.faults result }
+    {
+        if door >= self.doors.len() || door >= self.seats.asks.len() || !self.seats.asks[door] {
+            return Ok(None);
+        }
+        match self.doors[door].accept() {
+            Ok((stream, address)) => Ok(Some((stream, Origin { door, address }))),
+            Err(error) => {
+                self.seats.asks[door] = false;
+                if error.kind() == ErrorKind::WouldBlock {
+                    Ok(None)
+                } else {
+                    Err(self.fail())
+                }
+            }
+        }
+    }
+
+    /// The next connection that asks at any door, and where it came in. The doors take turns.
+    fn next_stream(&mut self) -> Result<Option<(Stream, Origin)>, Failed>
+        ensures places { self.new.seats.places ≡ self.old.seats.places }
+        ensures cause { HasCause self.old.faults self.new.faults result }
+    {
+        let count = self.doors.len();
+        for _ in 0..count {
+            let door = self.door;
+            self.door = if door.saturating_add(1) < count {
+                door.saturating_add(1)
+            } else {
+                0
+            };
+            if let Some(asked) = self.ask_at(door)? {
+                return Ok(Some(asked));
+            }
+        }
+        Ok(None)
+    }
+
     /// A connection that asked comes to a port, and the system tells of its changes from now on.
-    fn admit(&mut self, port: usize, mut stream: Stream) -> Result<bool, Failed>
+    fn admit(&mut self, port: usize, mut stream: Stream, origin: Origin) -> Result<bool, Failed>
         requires next { port ≤ length self.old.seats.places.items }
         ensures fresh_came { OnOk result (came_in self.new.seats.places.items port ≡ []) }
         ensures fresh_went { OnOk result (went_in self.new.seats.places.items port ≡ []) }
@@ -90,7 +138,12 @@ impl<'a, R: Net + Eprint> Sockets<'a, R> {
         if stream.register(self.poll.registry(), token).is_err() {
             return Err(self.fail());
         }
-        match seat(&mut self.seats.places, port, Connection::new(stream)) {
+        match seat(
+            &mut self.seats.places,
+            port,
+            Connection::new(stream),
+            origin,
+        ) {
             Ok(()) => Ok(true),
             Err(_) => Err(self.fail()),
         }
@@ -111,19 +164,15 @@ impl<'a, R: Net + Eprint> Ports for Sockets<'a, R> {
     ghost faults = { λ s. s.faults };
 
     fn accept(&mut self, port: usize) -> Result<bool, Failed> {
-        if !self.seats.members_ask || port > self.seats.places.len() {
+        if port > self.seats.places.len() {
             rest(&mut self.seats.places, port);
             return Ok(false);
         }
-        match self.members.accept() {
-            Ok(stream) => self.admit(port, stream),
-            Err(error) => {
-                self.seats.members_ask = false;
-                if error.kind() == ErrorKind::WouldBlock {
-                    rest(&mut self.seats.places, port);
-                    return Ok(false);
-                }
-                Err(self.fail())
+        match self.next_stream()? {
+            Some((stream, origin)) => self.admit(port, stream, origin),
+            None => {
+                rest(&mut self.seats.places, port);
+                Ok(false)
             }
         }
     }
