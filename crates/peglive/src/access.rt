@@ -28,7 +28,8 @@ enum Fault {
 impl fmt::Display for Fault {
     fn fmt<W: fmt::Write>(&self, f: &mut fmt::Formatter<W>) -> fmt::Result {
         f.write_str(match self {
-            Fault::BadWords => "a line is NAME FROM NETWORK or NAME AT ADDRESS, with one space between",
+            Fault::BadWords =>
+                "a line is NAME FROM NETWORK or NAME AT ADDRESS, with one space between",
             Fault::UnknownMember => "the config has no member of this name",
             Fault::BadNetwork => {
                 "a network is an address, as 10.1.2.3, or its first address and how many bits all of it share, as 10.1.0.0/16"
@@ -102,7 +103,8 @@ impl Rules {
                 };
             }
         }
-        if self.doors.len() >= MAX_DOORS - 1 || self.doors.push(OwnDoor { member, address }).is_err()
+        if self.doors.len() >= MAX_DOORS - 1
+            || self.doors.push(OwnDoor { member, address }).is_err()
         {
             return Err(Fault::TooMany);
         }
@@ -110,11 +112,17 @@ impl Rules {
     }
 
     /// The rule of a line.
-    fn rule_of(&mut self, config: &Config, line: &str) -> Result<Rule, Fault> {
+    fn rule_of(&mut self, config: &Config, line: &[u8]) -> Result<Rule, Fault> {
+        let Ok(line) = str::from_utf8(line) else {
+            return Err(Fault::BadWords);
+        };
         let mut words = line.split(' ');
-        let (Some(name), Some(how), Some(what), None) =
-            (words.next(), words.next(), words.next(), words.next())
-        else {
+        let (Some(name), Some(how), Some(what), None) = (
+            words.next(),
+            words.next(),
+            words.next(),
+            words.next(),
+        ) else {
             return Err(Fault::BadWords);
         };
         let Some(member) = config
@@ -146,13 +154,13 @@ impl Rules {
 fn read_lines(
     rt: &HostRuntime,
     name: &str,
-    text: &str,
+    text: &[u8],
     config: &Config,
     rules: &mut Rules,
 ) -> Result<usize, Exit> {
     let mut bad: usize = 0;
-    for (index, line) in text.split('\n').enumerate() {
-        if line.is_empty() || line.starts_with('#') {
+    for (index, line) in text.split(|byte| *byte == b'\n').enumerate() {
+        if line.is_empty() || line.starts_with(b"#") {
             continue;
         }
         match rules.rule_of(config, line) {
@@ -179,21 +187,18 @@ pub fn read_access(
     config: &Config,
     members: &str,
 ) -> Result<Listed, Exit> {
-    let Ok(bytes) = fs::read(rt, name) else {
+    let Ok(text) = fs::read(rt, name) else {
         return match tell_unread(rt, name) {
             Ok(()) => Err(Exit::Unread),
             Err(_) => Err(Exit::Unwritten),
         };
-    };
-    let Ok(text) = str::from_utf8(bytes.as_slice()) else {
-        return Err(Exit::BadAccess);
     };
     let mut rules = Rules {
         shared: members.parse::<SocketAddr>().ok(),
         rules: Vec::new(rt.alloc()),
         doors: Vec::new(rt.alloc()),
     };
-    if read_lines(rt, name, text, config, &mut rules)? > 0 {
+    if read_lines(rt, name, text.as_slice(), config, &mut rules)? > 0 {
         return Err(Exit::BadAccess);
     }
     Ok(Listed {

@@ -13,7 +13,6 @@ use live_edge::{Access, LiveEdge};
 use live_machine::{BookMachine, PhaseMachine};
 use ports::Ports;
 use socket_ports::{Door, DoorFault, Sockets};
-use std::alloc::AllocError;
 use std::sync::ledger::{Blank, Ledger};
 use venue_words::{Config, Steps};
 
@@ -69,7 +68,7 @@ fn open_doors(rt: &HostRuntime, members: &str, listed: &Listed) -> Result<Vec<Do
 fn keep_door(doors: &mut Vec<Door>, door: Door) -> Result<(), Exit> {
     match doors.push(door) {
         Ok(()) => Ok(()),
-        Err(AllocError) => Err(Exit::NoMemory),
+        Err(_) => Err(Exit::NoMemory),
     }
 }
 
