@@ -5,4 +5,4 @@ mod page;
 pub mod queues;
 mod rows;
 
-pub use rows::{BookRows, BookTable};
+pub use rows::{BookAnswer, BookRows, SoughtBookRows};

@@ -4,11 +4,12 @@ ghost use Rattle.eager_meaning.specs.Step.{IsNumbered, runs};
 ghost use Rattle.listing.specs.Lines.{ended};
 ghost use Rattle.audit_core.specs.Telling.{IsBookOf};
 ghost use Rattle.audit_tables.specs.Trades.{best_behind};
-ghost use Rattle.audit_book.specs.Books.{book_text, heading, place_text, row_line, row_lines, side_lines, title};
+ghost use Rattle.audit_book.specs.Books.{book_text, depth_heading, depth_lines, heading, level_lines, place_text, row_line, row_lines, side_lines, title};
 
 use crate::queues::queue_of;
 use audit_columns::columns::{push_event_clock, push_quote};
-use audit_columns::resting::push_row_cells;
+use audit_columns::resting::{push_depth_cells, push_row_cells};
+use audit_queue::levels::{Level, levels_of};
 use audit_tables::counts::event_count;
 use fix_write::digits::push_number;
 use listing::name_at;
@@ -141,7 +142,41 @@ fn push_side_lines(
     )
 }
 
-/// Appends both sides of a book, at the national quote behind its last event.
+/// The names of the columns of a side by price.
+fn depth_heading(side: Side) -> &'static [u8]
+    ensures { result.now ≡ depth_heading side }
+{
+    match side {
+        Side::Buy => b"buys by price  shares     orders",
+        Side::Sell => b"sells by price shares     orders",
+    }
+}
+
+/// Appends a line for each price.
+fn push_levels(out: &mut Vec<u8>, levels: &[Level]) -> Result<(), NoMemory>
+    ensures { OnOk result (out.new.items ≡ out.old.items ++ level_lines levels.now) }
+{
+    for level in levels {
+        push_depth_cells(out, level.price, level.shares, level.orders)?;
+        push(out, b"\n")?;
+    }
+    Ok(())
+}
+
+/// Appends the active orders of a side by price.
+#[tactic(auto, unfolding(crate::specs::Books::depth_lines))]
+fn push_depth(alloc: Global, out: &mut Vec<u8>, side: Side, book: &Book) -> Result<(), NoMemory>
+    ensures { OnOk result (out.new.items ≡ out.old.items ++ depth_lines side
+        (runs book.now.markets book.now.tick book.now.journal).state) }
+{
+    let queue = queue_of(alloc, book, side)?;
+    let levels = levels_of(alloc, queue.active.as_slice())?;
+    push(out, depth_heading(side))?;
+    push(out, b"\n")?;
+    push_levels(out, levels.as_slice())
+}
+
+/// Appends both sides of a book, at the national quote behind its last event, and both by price.
 #[tactic(auto, unfolding(crate::specs::Books::book_text))]
 pub fn push_book(
     alloc: Global,
@@ -157,5 +192,7 @@ pub fn push_book(
 {
     push_title(alloc, out, config, symbol, book.journal(), best)?;
     push_side_lines(alloc, out, config, best, Side::Buy, book)?;
-    push_side_lines(alloc, out, config, best, Side::Sell, book)
+    push_side_lines(alloc, out, config, best, Side::Sell, book)?;
+    push_depth(alloc, out, Side::Buy, book)?;
+    push_depth(alloc, out, Side::Sell, book)
 }

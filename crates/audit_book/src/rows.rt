@@ -1,63 +1,57 @@
-//! The table of a book.
+//! A book as an answer.
 ghost use Rattle.std.specs.Prelude.{◌≡◌};
 
 use crate::page::push_book;
-use audit_tables::asked::{Asked, Found, Question};
+use audit_tables::answer::{Answer, AskedRows};
+use audit_tables::asked::Found;
 use audit_tables::quotes::{no_quotes, note_event};
-use audit_tables::{RowTable, Rows};
+use audit_tables::sought::SoughtRows;
 use best_prices::Markets;
 use std::alloc::Global;
 use symbol_book::Book;
 use venue_words::{Config, NoMemory, Report};
 
-/// Tells of a symbol's book behind the event that is asked for.
+/// A symbol's book after the event that is asked for.
 #[derive(Drop)]
-pub struct BookRows<'a, A: Asked> {
+pub struct BookAnswer {
     alloc: Global,
-    question: Question<'a, A>,
+    event: u32,
     /// The quotes of the markets in the symbol whose events come.
     markets: Markets,
     found: Found,
 }
 
-/// A symbol's book behind an event, on its way to a sink.
-pub type BookTable<'a, A, K> = RowTable<BookRows<'a, A>, K>;
+/// A symbol's book after an event.
+pub type BookRows<'a, A> = AskedRows<'a, A, BookAnswer>;
 
-impl<'a, A: Asked> BookRows<'a, A> {
-    /// Nothing is told yet.
-    pub fn new(alloc: Global, question: Question<'a, A>) -> Result<BookRows<'a, A>, NoMemory> {
-        Ok(BookRows {
+/// A symbol's book after the event that is sought.
+pub type SoughtBookRows<S> = SoughtRows<S, BookAnswer>;
+
+impl Answer for BookAnswer {
+    ghost use Rattle.audit_tables.specs.Quotes.{HasQuotes};
+    ghost use Rattle.audit_book.specs.Books.{book_if_behind};
+
+    ghost tells = { book_if_behind };
+
+    ghost asked = { λ answer. answer.event };
+
+    ghost heard = { λ answer config symbol journal. HasQuotes config symbol journal answer.markets };
+
+    fn new(alloc: Global, event: u32) -> Result<BookAnswer, NoMemory> {
+        Ok(BookAnswer {
             alloc,
-            question,
+            event,
             markets: Markets::new(alloc, 0)?,
-            found: Found::NoSymbol,
+            found: Found::NoEvent,
         })
     }
 
-    /// What was found of that which is asked for.
-    pub fn found(&self) -> Found {
-        self.found
-    }
-}
-
-impl<'a, A: Asked> Rows for BookRows<'a, A> {
-    ghost use Rattle.std.specs.Prelude.{[]};
-    ghost use Rattle.audit_tables.specs.Quotes.{HasQuotes};
-    ghost use Rattle.audit_book.specs.Books.{book_telling};
-
-    ghost tells = { book_telling A.name A.event };
-
-    ghost header = { [] };
-
-    ghost heard = { λ rows config symbol journal. HasQuotes config symbol journal rows.markets };
-
-    fn begin(&mut self, _out: &mut Vec<u8>, config: &Config) -> Result<(), NoMemory> {
+    fn begin(&mut self, config: &Config) -> Result<(), NoMemory> {
         self.markets = no_quotes(self.alloc, config)?;
-        self.found = self.question.found_in(config);
         Ok(())
     }
 
-    #[tactic(auto, unfolding(crate::specs::Books::book_if_asked))]
+    #[tactic(auto, unfolding(crate::specs::Books::book_if_behind))]
     fn push_event(
         &mut self,
         out: &mut Vec<u8>,
@@ -67,7 +61,7 @@ impl<'a, A: Asked> Rows for BookRows<'a, A> {
         _made: &[Report],
     ) -> Result<(), NoMemory> {
         note_event(&mut self.markets, config, symbol, book);
-        if !self.question.is_behind(config, symbol, book) {
+        if book.journal().len() != self.event as usize {
             return Ok(());
         }
         self.found = Found::All;
@@ -75,14 +69,7 @@ impl<'a, A: Asked> Rows for BookRows<'a, A> {
         push_book(self.alloc, out, config, symbol, best, book)
     }
 
-    fn push_end(
-        &mut self,
-        _out: &mut Vec<u8>,
-        config: &Config,
-        _symbol: u32,
-        _book: &Book,
-    ) -> Result<(), NoMemory> {
-        self.markets = no_quotes(self.alloc, config)?;
-        Ok(())
+    fn found(&self) -> Found {
+        self.found
     }
 }

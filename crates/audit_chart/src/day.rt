@@ -1,43 +1,20 @@
 //! What is noted of a symbol's day while its events go by.
 use audit_core::{Watch, WatchFault};
 use best_prices::Markets;
+use day_picture::Sketch;
 use std::alloc::Global;
 use symbol_book::Book;
-use venue_words::{Best, Command, Config, Execution, Kind, NoMemory, Report, Side, View};
-
-/// The book behind an event.
-#[derive(Clone, Copy)]
-pub struct Point {
-    /// Milliseconds since 1970 UTC.
-    pub moment: i64,
-    /// The national quote, in cents.
-    pub best: Best,
-    /// The shares of the buys that rest, and of the sells.
-    pub buys: u64,
-    pub sells: u64,
-}
-
-/// A trade.
-#[derive(Clone, Copy)]
-pub struct Dot {
-    /// Milliseconds since 1970 UTC.
-    pub moment: i64,
-    /// In units of 0.005.
-    pub price: u32,
-    pub quantity: u32,
-}
+use venue_words::{Command, Config, Execution, Kind, NoMemory, Report, Side, View};
 
 /// A symbol's day.
 #[derive(Drop)]
 pub struct Day {
-    symbol: u32,
     markets: Markets,
     /// The shares left of each order, by the event of its New.
     leaves: Vec<u32>,
     buys: u64,
     sells: u64,
-    pub points: Vec<Point>,
-    pub dots: Vec<Dot>,
+    pub sketch: Sketch,
 }
 
 /// The shares that an order has left, as a report shows it.
@@ -56,16 +33,14 @@ fn replaced(total: u64, was: u32, left: u32) -> u64 {
 }
 
 impl Day {
-    /// A day of a symbol of which nothing was noted, over so many markets.
-    pub fn new(alloc: Global, symbol: u32, markets: u32) -> Result<Day, NoMemory> {
+    /// A day of which nothing was noted, over so many markets.
+    pub fn new(alloc: Global, markets: u32) -> Result<Day, NoMemory> {
         Ok(Day {
-            symbol,
             markets: Markets::new(alloc, markets)?,
             leaves: Vec::new(alloc),
             buys: 0,
             sells: 0,
-            points: Vec::new(alloc),
-            dots: Vec::new(alloc),
+            sketch: Sketch::new(alloc),
         })
     }
 
@@ -73,6 +48,7 @@ impl Day {
         if let Command::Quote { market, bid, offer } = command {
             if (*market as usize) < self.markets.len() {
                 let _changed = self.markets.set(*market, *bid, *offer);
+                self.sketch.note_quote(self.markets.best());
             }
         }
     }
@@ -109,11 +85,7 @@ impl Day {
         };
         self.note_order(view)?;
         if let (Execution::Traded { quantity, price }, Side::Buy) = (execution, view.side) {
-            self.dots.push(Dot {
-                moment: report.moment,
-                price: *price,
-                quantity: *quantity,
-            })?;
+            self.sketch.note_trade(*price, *quantity)?;
         }
         Ok(())
     }
@@ -125,27 +97,33 @@ impl Day {
         Ok(())
     }
 
-    fn note_point(&mut self, moment: i64) -> Result<(), NoMemory> {
-        self.points.push(Point {
-            moment,
-            best: self.markets.best(),
-            buys: self.buys,
-            sells: self.sells,
-        })?;
-        Ok(())
+    /// What was noted for the chart.
+    pub fn into_sketch(self) -> Sketch {
+        let Day { sketch, .. } = self;
+        sketch
     }
 
-    fn note(&mut self, book: &Book, made: &[Report]) -> Result<(), NoMemory> {
+    /// Notes the last event of a book, which made these reports.
+    pub fn note(&mut self, book: &Book, made: &[Report]) -> Result<(), NoMemory> {
         let Some(event) = book.journal().last() else {
             return Ok(());
         };
+        self.sketch.begin_event(event.number, event.moment)?;
         self.note_quote(&event.command);
         self.note_reports(made)?;
-        self.note_point(event.moment)
+        self.sketch.note_resting(self.buys, self.sells);
+        Ok(())
     }
 }
 
-impl Watch for Day {
+/// Notes the day of one symbol.
+#[derive(Drop)]
+pub struct DayWatch {
+    pub symbol: u32,
+    pub day: Day,
+}
+
+impl Watch for DayWatch {
     ghost use Rattle.std.specs.Prelude.{[], None};
 
     ghost tells = { record { event = λ _ _ _. []; end = λ _ _ _. [] } };
@@ -164,7 +142,7 @@ impl Watch for Day {
         made: &[Report],
     ) -> Result<(), WatchFault> {
         if symbol == self.symbol {
-            self.note(book, made)?;
+            self.day.note(book, made)?;
         }
         Ok(())
     }

@@ -13,7 +13,7 @@ ghost use Rattle.audit_core.specs.declared.verdict.TheConstants.{MAX_LISTING_BYT
 ghost use Rattle.audit_core.specs.Names.{has_line_names};
 ghost use Rattle.audit_chart.specs.Drawing.{IfPicture, IsListed};
 
-use crate::day::Day;
+use crate::day::{Day, DayWatch};
 use crate::picture::picture_of;
 use audit_core::{AuditFault, AuditFiles, AuditRefusal, Verdict, follow, has_line_names};
 use io_edge::Shelf;
@@ -76,9 +76,12 @@ fn drawn_of<H: Shelf, L: Ledger>(
     let Some(number) = symbol_named(config, symbol) else {
         return Ok(Drawn::NoSuchSymbol);
     };
-    let mut day = Day::new(alloc, number, config.markets.len() as u32)?;
-    match follow(alloc, config, shelf, listing, &mut day, steps)? {
-        Verdict::Same => Ok(Drawn::Picture(picture_of(alloc, symbol.as_bytes(), &day)?)),
+    let mut watch = DayWatch {
+        symbol: number,
+        day: Day::new(alloc, config.markets.len() as u32)?,
+    };
+    match follow(alloc, config, shelf, listing, &mut watch, steps)? {
+        Verdict::Same => Ok(Drawn::Picture(picture_of(alloc, symbol.as_bytes(), &mut watch.day)?)),
         Verdict::Differs { line, expected } => Ok(Drawn::Differs { line, expected }),
     }
 }

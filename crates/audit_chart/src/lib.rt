@@ -2,8 +2,7 @@
 //! where the listing is one.
 #![tactic(auto)]
 
-mod canvas;
-mod day;
+pub mod day;
 pub mod drawing;
 mod picture;
 

@@ -42,3 +42,13 @@ row_cells journal best x =
     ++ event_cells journal x.row.entry
     ++ column 10 (decimal x.row.leaves)
     ++ column 10 (shares_text x.row.minimum)
+
+-- a price, or a stroke for none
+abbrev pub price_or_stroke : Option ℕ → List ℕ
+price_or_stroke None = codes "-"
+price_or_stroke (Some price) = price_text price
+
+-- PRICE SHARES ORDERS, of the orders at one price
+unfoldable pub depth_cells : Option ℕ → ℕ → ℕ → List ℕ
+depth_cells price shares orders =
+    column 14 (price_or_stroke price) ++ column 10 (decimal shares) ++ decimal orders

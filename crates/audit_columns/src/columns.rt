@@ -34,11 +34,11 @@ pub fn push_column(out: &mut Vec<u8>, width: usize, text: &[u8]) -> Result<(), N
 
 /// Appends a column with a number.
 #[tactic(auto, using(crate::proofs::Padding::columned))]
-pub fn push_number_column(out: &mut Vec<u8>, width: usize, number: u32) -> Result<(), NoMemory>
+pub fn push_number_column(out: &mut Vec<u8>, width: usize, number: u64) -> Result<(), NoMemory>
     ensures { OnOk result (out.new.items ≡ out.old.items ++ column width (decimal number)) }
 {
     let start = out.len();
-    push_number(out, u64::from(number))?;
+    push_number(out, number)?;
     end_column(out, start, width)
 }
 
@@ -57,7 +57,7 @@ fn push_behind_date(out: &mut Vec<u8>, text: &[u8]) -> Result<(), NoMemory>
 
 /// Appends the time of day of a moment.
 #[tactic(auto, using(crate::proofs::Padding::behind_date))]
-fn push_clock(alloc: Global, out: &mut Vec<u8>, moment: i64) -> Result<(), NoMemory>
+pub fn push_clock(alloc: Global, out: &mut Vec<u8>, moment: i64) -> Result<(), NoMemory>
     ensures { OnOk result (out.new.items ≡ out.old.items ++ clock_of moment) }
 {
     let mut text = Vec::new(alloc);
@@ -113,7 +113,7 @@ pub fn push_event_cells(
 ) -> Result<(), NoMemory>
     ensures { OnOk result (out.new.items ≡ out.old.items ++ event_cells journal.now number) }
 {
-    push_number_column(out, 8, number)?;
+    push_number_column(out, 8, u64::from(number))?;
     push_clock_column(alloc, out, 13, journal, number)
 }
 

@@ -2,10 +2,11 @@
 ghost use Rattle.std.specs.Prelude.{◌≡◌, ◌++◌, OnOk};
 ghost use Rattle.venue_words.specs.Peg.{has_reference, holds_when_locked};
 ghost use Rattle.audit_columns.specs.Columns.{column, shares_text};
-ghost use Rattle.audit_columns.specs.Resting.{missing_or, price_or_why, row_cells, why_inactive, why_no_price};
+ghost use Rattle.audit_columns.specs.Resting.{depth_cells, missing_or, price_or_stroke, price_or_why, row_cells, why_inactive, why_no_price};
 
 use crate::columns::{end_column, push_event_cells, push_number_column, push_shares};
 use exec_reports::texts::push_price;
+use fix_write::digits::push_number;
 use std::alloc::Global;
 use venue_words::{Best, Event, NoMemory, Priced, Reference};
 
@@ -110,6 +111,36 @@ pub fn push_row_cells(
     push_price_column(out, 14, best, x)?;
     push_event_cells(alloc, out, journal, x.time)?;
     push_event_cells(alloc, out, journal, x.row.entry)?;
-    push_number_column(out, 10, x.row.leaves)?;
+    push_number_column(out, 10, u64::from(x.row.leaves))?;
     push_shares_column(out, 10, x.row.minimum)
+}
+
+/// Appends a price, or a stroke for none.
+fn push_price_or_stroke(out: &mut Vec<u8>, price: Option<u32>) -> Result<(), NoMemory>
+    ensures { OnOk result (out.new.items ≡ out.old.items ++ price_or_stroke price) }
+{
+    match price {
+        Some(price) => push_price(out, price),
+        None => {
+            out.push(b'-')?;
+            Ok(())
+        }
+    }
+}
+
+/// Appends the price of some orders, their shares, and how many they are.
+#[tactic(auto, unfolding(crate::specs::Resting::depth_cells), using(crate::proofs::Padding::columned))]
+pub fn push_depth_cells(
+    out: &mut Vec<u8>,
+    price: Option<u32>,
+    shares: u64,
+    orders: u32,
+) -> Result<(), NoMemory>
+    ensures { OnOk result (out.new.items ≡ out.old.items ++ depth_cells price shares orders) }
+{
+    let start = out.len();
+    push_price_or_stroke(out, price)?;
+    end_column(out, start, 14)?;
+    push_number_column(out, 10, shares)?;
+    push_number(out, u64::from(orders))
 }

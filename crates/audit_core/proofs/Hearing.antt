@@ -1,5 +1,5 @@
 -- What a watch is told of an event that was worked.
-use Rattle.std.proofs.Common.{◌≡◌, ℕ, ◌==◌, List, [], ◌∷◌, ◌++◌, length, drop, sym, ◌∙◌, ap}
+use Rattle.std.proofs.Common.{◌≡◌, ℕ, ◌==◌, List, [], ◌∷◌, ◌++◌, length, drop, sym, ◌∙◌, ap, arith}
 use Rattle.std.specs.Prelude.{filter}
 use Rattle.std.proofs.lemmas.List.{length-append}
 use Rattle.venue_words.specs.declared.config.Config.{Config}
@@ -20,6 +20,7 @@ is_book_of config symbol part opened = record {
   tick = opened.tick;
   reports = opened.reports;
   numbered = opened.numbered;
+  few = omega (arith, opened.few, opened.counted);
   fits = opened.fits;
 }
 

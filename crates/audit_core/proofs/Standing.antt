@@ -87,7 +87,7 @@ all_read config symbol part behind told reads =
     sym (append-nil behind) ∙ ap (λ (r : List Report). behind ++ report_lines config symbol r) (sym none) ∙ reads
 
 -- one more event is told of behind those before
-told_more : (telling : Telling) (config : Config) (symbol : ℕ) (before events : List Event) (event : Event)
+pub told_more : (telling : Telling) (config : Config) (symbol : ℕ) (before events : List Event) (event : Event)
     → events_text telling config symbol before (events ++ event ∷ [])
     ≡ events_text telling config symbol before events ++ telling.event config symbol (before ++ (events ++ event ∷ []))
 told_more telling config symbol before [] event = append-nil (telling.event config symbol (before ++ event ∷ []))

@@ -13,7 +13,7 @@ use Rattle.listing_reader.specs.Fitting.{fits_event}
 use Rattle.symbol_book.specs.Book.{BookView}
 use Rattle.audit_core.specs.declared.watch.WatchFault.{WatchFault}
 use Rattle.audit_core.specs.declared.watch.WatchFault.TheVariants.{WriteFault}
-use Rattle.audit_core.specs.Audited.{AreParts, run_of, tick_at}
+use Rattle.audit_core.specs.Audited.{AreParts, limit_at, run_of, tick_at}
 
 -- the texts that are told: of the last event of a symbol's journal, and of the whole journal at the symbol's end
 pub record Telling : Type 0 where
@@ -73,6 +73,7 @@ pub record IsBookOf (config : Config) (symbol : ℕ) (book : BookView) : Type 0 
   pub tick : book.tick ≡ tick_at config symbol
   pub reports : book.reports ≡ (run_of config symbol book.journal).reports
   pub numbered : IsNumbered book.journal
+  pub few : length book.journal ≤ limit_at config symbol
   pub fits : AllByRecursion (λ event. fits_event config event ≡ true) book.journal
 
 -- the book worked one more event than were heard of

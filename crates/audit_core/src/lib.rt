@@ -12,5 +12,6 @@ mod watch;
 pub use audit::{AuditFiles, AuditRefusal};
 pub use following::{follow, verify};
 pub use names::has_line_names;
+pub use part::OpenPart;
 pub use verdict::{AuditFault, Verdict};
 pub use watch::{Silent, Watch, WatchFault};

@@ -1,5 +1,5 @@
 //! The part of one symbol while it is read.
-ghost use Rattle.std.specs.Prelude.{◌≡◌, ◌≤◌, ◌<◌, ◌+◌, ◌++◌, ◌∷◌, List, [], true, false, length, drop, IfOk, IsTrue, nat_lt};
+ghost use Rattle.std.specs.Prelude.{◌≡◌, ◌≤◌, ◌<◌, ◌+◌, ◌++◌, ◌∷◌, List, [], true, false, length, drop, IfOk, OnOk, IsTrue, nat_lt};
 ghost use Rattle.venue_words.specs.Conditions.{IsConfig};
 ghost use Rattle.venue_words.specs.declared.command.Event.{Event};
 ghost use Rattle.script_text.specs.Lines.{has_end};
@@ -10,13 +10,14 @@ ghost use Rattle.audit_core.specs.Audited.{limit_at};
 ghost use Rattle.audit_core.specs.Ahead.{CountsAre};
 ghost use Rattle.audit_core.specs.Names.{has_line_names};
 ghost use Rattle.audit_core.specs.Progress.{IsOpen, IsRead, Grows, Works, is_allowed, is_read, report_lines};
+ghost use Rattle.audit_core.specs.Telling.{reports_of_last};
 
 use listing::{push_report_line, runs_are_in_order};
 use listing_reader::Counts;
 use std::alloc::Global;
 use std::sync::ledger::Ledger;
 use symbol_book::Book;
-use venue_words::{Config, Event, FloorRefusal, NoMemory, Report, Steps};
+use venue_words::{Command, Config, Event, FloorRefusal, NoMemory, Report, Steps};
 
 /// The line of a report, without its LF.
 fn report_text(
@@ -35,6 +36,18 @@ fn report_text(
     push_report_line(alloc, &mut line, config, symbol, report)?;
     line.truncate(line.len() - 1);
     Ok(line)
+}
+
+fn copy_of(alloc: Global, event: &Event) -> Result<Event, NoMemory>
+    ensures { IfOk result (λ copy. copy ≡ event.now) }
+{
+    let command = Command::copy_of(alloc, &event.command)?;
+    Ok(Event {
+        number: event.number,
+        feed: event.feed,
+        moment: event.moment,
+        command,
+    })
 }
 
 /// The part of a symbol: what its line counts, the book of the events that were read, and how many of its reports were.
@@ -159,5 +172,40 @@ impl OpenPart {
             return Ok(false);
         }
         Ok(self.is_counted())
+    }
+
+    /// Works an event of a journal anew, whose reports then come next.
+    pub fn work_again<L: Ledger>(
+        &mut self,
+        alloc: Global,
+        config: &Config,
+        symbol: u32,
+        event: &Event,
+        steps: &mut Steps<L>,
+    ) -> Result<(), NoMemory>
+        requires open { IsOpen config.now symbol self.old }
+        requires fits { fits_event config.now event.now ≡ true }
+        requires told { self.old.told ≡ length self.old.book.reports }
+        requires number { event.now.number ≡ length self.old.book.journal + 1 }
+        requires more { length self.old.book.journal < self.old.counts.events }
+        ensures open { OnOk result (IsOpen config.now symbol self.new) }
+        ensures works { OnOk result (Works self.old self.new event.now) }
+        ensures made { OnOk result (drop self.new.told self.new.book.reports ≡ reports_of_last config.now symbol self.new.book.journal) }
+    {
+        runs_are_in_order();
+        let _config = config.markets.len();
+        let _symbol = symbol;
+        let copy = copy_of(alloc, event)?;
+        let is_applied = self.apply(copy, steps)?;
+        prove!(is_applied);
+        Ok(())
+    }
+
+    /// Passes over the reports that come next.
+    pub fn pass_reports(&mut self)
+        requires { self.old.told ≤ length self.old.book.reports }
+        ensures { self.new ≡ record self.old { told = length self.old.book.reports } }
+    {
+        self.told = self.book.front();
     }
 }

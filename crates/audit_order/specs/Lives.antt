@@ -22,8 +22,7 @@ use Rattle.listing.specs.Lines.{ended}
 use Rattle.audit_columns.specs.Columns.{event_cells, quote_text}
 use Rattle.audit_columns.specs.Resting.{price_or_why}
 use Rattle.audit_core.specs.Audited.{run_of}
-use Rattle.audit_core.specs.Telling.{Telling, reports_of_last}
-use Rattle.audit_tables.specs.Asked.{is_named}
+use Rattle.audit_core.specs.Telling.{reports_of_last}
 use Rattle.audit_tables.specs.Trades.{best_behind}
 use Rattle.audit_order.specs.Standing.{rests_alike, standing}
 
@@ -125,11 +124,3 @@ life_text first config symbol journal =
     report_lines config journal first (reports_of_last config symbol journal)
     ++ change_text journal (best_behind config symbol journal) (run_of config symbol journal).state
     (standing config symbol (take (length journal - 1) journal) first) (standing config symbol journal first)
-
--- it is told of the events of the symbol with a name, and of no other
-unfoldable pub life_if_asked : List ℕ → ℕ → Config → ℕ → List Event → List ℕ
-life_if_asked name first config symbol journal =
-    if is_named name config symbol then life_text first config symbol journal else []
-
-abbrev pub order_telling : List ℕ → ℕ → Telling
-order_telling name first = record { event = life_if_asked name first; end = λ _ _ _. [] }

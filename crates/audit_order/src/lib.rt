@@ -7,4 +7,4 @@ mod life;
 mod rows;
 mod standing;
 
-pub use rows::{OrderRows, OrderTable};
+pub use rows::{LifeAnswer, OrderRows, SoughtOrderRows};

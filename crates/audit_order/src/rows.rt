@@ -1,77 +1,61 @@
-//! The table of an order's life.
+//! The life of an order as an answer.
 ghost use Rattle.std.specs.Prelude.{◌≡◌};
 
 use crate::change::{Change, push_change};
 use crate::following::{Followed, follow, nothing};
 use crate::life::push_reports;
-use audit_tables::asked::{Asked, Found, Question};
+use audit_tables::answer::{Answer, AskedRows};
+use audit_tables::asked::Found;
 use audit_tables::quotes::{no_quotes, note_event};
-use audit_tables::{RowTable, Rows};
+use audit_tables::sought::SoughtRows;
 use best_prices::Markets;
 use std::alloc::Global;
 use symbol_book::Book;
 use venue_words::{Config, NoMemory, Report};
 
-/// Tells of the life of the order that entered at the event that is asked for.
+/// The life of the order that entered at the event that is asked for.
 #[derive(Drop)]
-pub struct OrderRows<'a, A: Asked> {
+pub struct LifeAnswer {
     alloc: Global,
-    question: Question<'a, A>,
+    event: u32,
     /// The quotes of the markets in the symbol whose events come.
     markets: Markets,
     followed: Followed,
-    found: Found,
 }
 
-/// The life of an order, on its way to a sink.
-pub type OrderTable<'a, A, K> = RowTable<OrderRows<'a, A>, K>;
+/// The life of the order that entered at an event.
+pub type OrderRows<'a, A> = AskedRows<'a, A, LifeAnswer>;
 
-impl<'a, A: Asked> OrderRows<'a, A> {
-    /// Nothing is told yet.
-    pub fn new(alloc: Global, question: Question<'a, A>) -> Result<OrderRows<'a, A>, NoMemory> {
-        Ok(OrderRows {
+/// The life of the order that entered at the event that is sought.
+pub type SoughtOrderRows<S> = SoughtRows<S, LifeAnswer>;
+
+impl Answer for LifeAnswer {
+    ghost use Rattle.audit_tables.specs.Quotes.{HasQuotes};
+    ghost use Rattle.audit_order.specs.Lives.{life_text};
+    ghost use Rattle.audit_order.specs.Standing.{Keeps};
+
+    ghost tells = { life_text };
+
+    ghost asked = { λ answer. answer.event };
+
+    ghost heard = { λ answer config symbol journal. HasQuotes config symbol journal answer.markets × Keeps answer.event answer.followed config symbol journal };
+
+    fn new(alloc: Global, event: u32) -> Result<LifeAnswer, NoMemory> {
+        Ok(LifeAnswer {
             alloc,
-            question,
+            event,
             markets: Markets::new(alloc, 0)?,
             followed: nothing(),
-            found: Found::NoSymbol,
         })
     }
 
-    /// What was found of that which is asked for.
-    pub fn found(&self) -> Found {
-        self.found
-    }
-}
-
-/// What is found at the event itself.
-fn found_of(followed: &Followed) -> Found {
-    match followed.number {
-        Some(_) => Found::All,
-        None => Found::NoOrder,
-    }
-}
-
-impl<'a, A: Asked> Rows for OrderRows<'a, A> {
-    ghost use Rattle.std.specs.Prelude.{[]};
-    ghost use Rattle.audit_tables.specs.Quotes.{HasQuotes};
-    ghost use Rattle.audit_order.specs.Lives.{order_telling};
-    ghost use Rattle.audit_order.specs.Standing.{Keeps};
-
-    ghost tells = { order_telling A.name A.event };
-
-    ghost header = { [] };
-
-    ghost heard = { λ rows config symbol journal. HasQuotes config symbol journal rows.markets × Keeps A.event rows.followed config symbol journal };
-
-    fn begin(&mut self, _out: &mut Vec<u8>, config: &Config) -> Result<(), NoMemory> {
+    fn begin(&mut self, config: &Config) -> Result<(), NoMemory> {
         self.markets = no_quotes(self.alloc, config)?;
         self.followed = nothing();
-        self.found = self.question.found_in(config);
         Ok(())
     }
 
-    #[tactic(auto, unfolding(crate::specs::Lives::life_if_asked, crate::specs::Lives::life_text), using(crate::proofs::Stepping::rested))]
+    #[tactic(auto, unfolding(crate::specs::Lives::life_text), using(crate::proofs::Stepping::rested))]
     fn push_event(
         &mut self,
         out: &mut Vec<u8>,
@@ -80,16 +64,10 @@ impl<'a, A: Asked> Rows for OrderRows<'a, A> {
         book: &Book,
         made: &[Report],
     ) -> Result<(), NoMemory> {
-        let first = self.question.event();
+        let first = self.event;
         let was = self.followed.rests;
         note_event(&mut self.markets, config, symbol, book);
         self.followed = follow(self.followed, first, config, symbol, book);
-        if !self.question.is_of(config, symbol) {
-            return Ok(());
-        }
-        if self.question.is_behind(config, symbol, book) {
-            self.found = found_of(&self.followed);
-        }
         let change = Change {
             was,
             rests: self.followed.rests,
@@ -99,15 +77,10 @@ impl<'a, A: Asked> Rows for OrderRows<'a, A> {
         push_change(self.alloc, out, best, book, change)
     }
 
-    fn push_end(
-        &mut self,
-        _out: &mut Vec<u8>,
-        config: &Config,
-        _symbol: u32,
-        _book: &Book,
-    ) -> Result<(), NoMemory> {
-        self.markets = no_quotes(self.alloc, config)?;
-        self.followed = nothing();
-        Ok(())
+    fn found(&self) -> Found {
+        match self.followed.number {
+            Some(_) => Found::All,
+            None => Found::NoOrder,
+        }
     }
 }

@@ -1,4 +1,4 @@
--- What an event, a report or a resting order counts for a member.
+-- What an event, a report or a resting order counts for a member, and so for all of them.
 use Rattle.std.specs.Prelude.{ℕ, ◌==◌, Bool, true, false, if◌then◌else◌, List, length, map, Option, Some, None, option_map, option_to_list, filter_map}
 use Rattle.std.specs.Option.{option_map_or}
 use Rattle.std.specs.List.{flat_map, range_with_len}
@@ -13,7 +13,7 @@ use Rattle.venue_words.specs.declared.row.Priced.{Priced}
 use Rattle.eager_meaning.specs.Showing.{row_of_order}
 use Rattle.eager_meaning.specs.State.{State, resting}
 use Rattle.exec_reports.specs.Parts.{last_quantity_in, rule_in}
-use Rattle.audit_summary.specs.Counting.{total}
+use Rattle.audit_summary.specs.Counting.{once, total}
 
 -- ---- events
 
@@ -30,7 +30,7 @@ abbrev pub command_in : Event → Option (ℕ × ℕ)
 command_in event = option_map (λ member. (member, 1)) (member_in event.command)
 
 -- how many events of a journal are commands of a member
-abbrev pub commands_of : ℕ → List Event → ℕ
+abbrev pub commands_of : Option ℕ → List Event → ℕ
 commands_of member journal = total member (filter_map command_in journal)
 
 -- ---- reports
@@ -45,7 +45,7 @@ unfoldable pub accepted_in : Report → Option (ℕ × ℕ)
 accepted_in report = if is_accepted report.kind then Some (report.member, 1) else None
 
 -- how many orders of a member entered
-abbrev pub accepted_of : ℕ → List Report → ℕ
+abbrev pub accepted_of : Option ℕ → List Report → ℕ
 accepted_of member reports = total member (filter_map accepted_in reports)
 
 -- a report of a trade counts once for its member
@@ -53,16 +53,16 @@ abbrev pub trade_in : Report → Option (ℕ × ℕ)
 trade_in report = option_map (λ quantity. (report.member, 1)) (last_quantity_in report.kind)
 
 -- how many trades a member was told of
-abbrev pub trades_of : ℕ → List Report → ℕ
-trades_of member reports = total member (filter_map trade_in reports)
+abbrev pub trades_of : Option ℕ → List Report → ℕ
+trades_of member reports = once member (total member (filter_map trade_in reports))
 
 -- a report of a trade counts its shares for its member
 abbrev pub shares_in : Report → Option (ℕ × ℕ)
 shares_in report = option_map (λ quantity. (report.member, quantity)) (last_quantity_in report.kind)
 
 -- how many shares a member was told to have traded
-abbrev pub shares_of : ℕ → List Report → ℕ
-shares_of member reports = total member (filter_map shares_in reports)
+abbrev pub shares_of : Option ℕ → List Report → ℕ
+shares_of member reports = once member (total member (filter_map shares_in reports))
 
 -- whether it tells that this rule was broken
 abbrev pub breaks : ℕ → Kind → Bool
@@ -73,7 +73,7 @@ unfoldable pub rejected_in : ℕ → Report → Option (ℕ × ℕ)
 rejected_in rule report = if breaks rule report.kind then Some (report.member, 1) else None
 
 -- how many commands of a member were rejected or refused by a rule
-abbrev pub rejected_of : ℕ → ℕ → List Report → ℕ
+abbrev pub rejected_of : ℕ → Option ℕ → List Report → ℕ
 rejected_of rule member reports = total member (filter_map (rejected_in rule) reports)
 
 -- ---- resting orders
@@ -87,9 +87,9 @@ abbrev pub resting_rows : State → List Priced
 resting_rows state = rows_to (length state.orders) state
 
 -- how many orders of a member rest
-abbrev pub resting_orders_of : ℕ → State → ℕ
+abbrev pub resting_orders_of : Option ℕ → State → ℕ
 resting_orders_of member state = total member (map (λ x. (x.row.member, 1)) (resting_rows state))
 
 -- how many shares of them are left
-abbrev pub resting_shares_of : ℕ → State → ℕ
+abbrev pub resting_shares_of : Option ℕ → State → ℕ
 resting_shares_of member state = total member (map (λ x. (x.row.member, x.row.leaves)) (resting_rows state))

@@ -1,4 +1,4 @@
-//! The sums of a symbol, by column and member.
+//! The sums of a symbol, by column and member, and for all.
 ghost use Rattle.std.specs.Prelude.{◌≡◌, ◌<◌, ◌≤◌, ◌+◌, ◌^◌, ◌++◌, length, map, filter_map, option_to_list, IfOk, OnOk};
 ghost use Rattle.eager_meaning.specs.Showing.{row_of_order};
 ghost use Rattle.eager_meaning.specs.State.{resting};
@@ -13,7 +13,7 @@ use crate::columns::{
     accepted_pairs, command_pairs, leaves_pairs, order_pairs, rejected_pairs, share_pairs,
     trade_pairs,
 };
-use crate::totals::totals;
+use crate::totals::{Counted, totals};
 use audit_tables::counts::{event_count, order_count};
 use std::alloc::Global;
 use std::marker::Brand;
@@ -24,24 +24,24 @@ use venue_words::{Config, Event, NoMemory, Priced, Report, Steps};
 /// How many rules there are.
 const RULES: u8 = 18;
 
-/// What is counted in a symbol for each member.
+/// What is counted in a symbol for each member, and for all.
 #[derive(Drop)]
 pub struct Sums {
-    pub commands: Vec<u64>,
-    pub accepted: Vec<u64>,
-    pub trades: Vec<u64>,
-    pub shares: Vec<u64>,
-    pub resting_orders: Vec<u64>,
-    pub resting_shares: Vec<u64>,
+    pub commands: Counted,
+    pub accepted: Counted,
+    pub trades: Counted,
+    pub shares: Counted,
+    pub resting_orders: Counted,
+    pub resting_shares: Counted,
     /// By rule, from the first.
-    pub rejected: Vec<Vec<u64>>,
+    pub rejected: Vec<Counted>,
 }
 
 /// How many commands came of each member.
 #[tactic(auto, using(crate::proofs::Lists::few))]
-fn commands(alloc: Global, many: usize, journal: &[Event]) -> Result<Vec<u64>, NoMemory>
+fn commands(alloc: Global, many: usize, journal: &[Event]) -> Result<Counted, NoMemory>
     requires { length journal.now < 2 ^ 32 }
-    ensures { IfOk result (λ sums. AreTotals many (filter_map command_in journal.now) sums.items) }
+    ensures { IfOk result (AreTotals many (filter_map command_in journal.now)) }
 {
     let pairs = command_pairs(alloc, journal)?;
     totals(alloc, many, pairs.as_slice())
@@ -49,9 +49,9 @@ fn commands(alloc: Global, many: usize, journal: &[Event]) -> Result<Vec<u64>, N
 
 /// How many orders of each member entered.
 #[tactic(auto, using(crate::proofs::Lists::few))]
-fn accepted(alloc: Global, many: usize, reports: &[Report]) -> Result<Vec<u64>, NoMemory>
+fn accepted(alloc: Global, many: usize, reports: &[Report]) -> Result<Counted, NoMemory>
     requires { length reports.now < 2 ^ 32 }
-    ensures { IfOk result (λ sums. AreTotals many (filter_map accepted_in reports.now) sums.items) }
+    ensures { IfOk result (AreTotals many (filter_map accepted_in reports.now)) }
 {
     let pairs = accepted_pairs(alloc, reports)?;
     totals(alloc, many, pairs.as_slice())
@@ -59,9 +59,9 @@ fn accepted(alloc: Global, many: usize, reports: &[Report]) -> Result<Vec<u64>, 
 
 /// How many trades each member was told of.
 #[tactic(auto, using(crate::proofs::Lists::few))]
-fn trades(alloc: Global, many: usize, reports: &[Report]) -> Result<Vec<u64>, NoMemory>
+fn trades(alloc: Global, many: usize, reports: &[Report]) -> Result<Counted, NoMemory>
     requires { length reports.now < 2 ^ 32 }
-    ensures { IfOk result (λ sums. AreTotals many (filter_map trade_in reports.now) sums.items) }
+    ensures { IfOk result (AreTotals many (filter_map trade_in reports.now)) }
 {
     let pairs = trade_pairs(alloc, reports)?;
     totals(alloc, many, pairs.as_slice())
@@ -69,9 +69,9 @@ fn trades(alloc: Global, many: usize, reports: &[Report]) -> Result<Vec<u64>, No
 
 /// How many shares each member was told to have traded.
 #[tactic(auto, using(crate::proofs::Lists::few))]
-fn shares(alloc: Global, many: usize, reports: &[Report]) -> Result<Vec<u64>, NoMemory>
+fn shares(alloc: Global, many: usize, reports: &[Report]) -> Result<Counted, NoMemory>
     requires { length reports.now < 2 ^ 32 }
-    ensures { IfOk result (λ sums. AreTotals many (filter_map shares_in reports.now) sums.items) }
+    ensures { IfOk result (AreTotals many (filter_map shares_in reports.now)) }
 {
     let pairs = share_pairs(alloc, reports)?;
     totals(alloc, many, pairs.as_slice())
@@ -79,16 +79,16 @@ fn shares(alloc: Global, many: usize, reports: &[Report]) -> Result<Vec<u64>, No
 
 /// How many commands of each member a rule rejected or refused.
 #[tactic(auto, using(crate::proofs::Lists::few))]
-fn rejected(alloc: Global, many: usize, rule: u8, reports: &[Report]) -> Result<Vec<u64>, NoMemory>
+fn rejected(alloc: Global, many: usize, rule: u8, reports: &[Report]) -> Result<Counted, NoMemory>
     requires { length reports.now < 2 ^ 32 }
-    ensures { IfOk result (λ sums. AreTotals many (filter_map (rejected_in rule) reports.now) sums.items) }
+    ensures { IfOk result (AreTotals many (filter_map (rejected_in rule) reports.now)) }
 {
     let pairs = rejected_pairs(alloc, rule, reports)?;
     totals(alloc, many, pairs.as_slice())
 }
 
 /// The same for each rule, from the first.
-fn rejections(alloc: Global, many: usize, reports: &[Report]) -> Result<Vec<Vec<u64>>, NoMemory>
+fn rejections(alloc: Global, many: usize, reports: &[Report]) -> Result<Vec<Counted>, NoMemory>
     requires { length reports.now < 2 ^ 32 }
     ensures { IfOk result (λ columns. AreRejections many 18 reports.now columns.items) }
 {
@@ -146,18 +146,18 @@ fn resting_rows(alloc: Global, book: &Book) -> Result<Vec<Priced>, NoMemory>
 }
 
 /// How many of these orders are of each member.
-fn orders(alloc: Global, many: usize, rows: &[Priced]) -> Result<Vec<u64>, NoMemory>
+fn orders(alloc: Global, many: usize, rows: &[Priced]) -> Result<Counted, NoMemory>
     requires { length rows.now < 2 ^ 32 }
-    ensures { IfOk result (λ sums. AreTotals many (map (λ x. (x.row.member, 1)) rows.now) sums.items) }
+    ensures { IfOk result (AreTotals many (map (λ x. (x.row.member, 1)) rows.now)) }
 {
     let pairs = order_pairs(alloc, rows)?;
     totals(alloc, many, pairs.as_slice())
 }
 
 /// How many shares are left of those of each member.
-fn leaves(alloc: Global, many: usize, rows: &[Priced]) -> Result<Vec<u64>, NoMemory>
+fn leaves(alloc: Global, many: usize, rows: &[Priced]) -> Result<Counted, NoMemory>
     requires { length rows.now < 2 ^ 32 }
-    ensures { IfOk result (λ sums. AreTotals many (map (λ x. (x.row.member, x.row.leaves)) rows.now) sums.items) }
+    ensures { IfOk result (AreTotals many (map (λ x. (x.row.member, x.row.leaves)) rows.now)) }
 {
     let pairs = leaves_pairs(alloc, rows)?;
     totals(alloc, many, pairs.as_slice())

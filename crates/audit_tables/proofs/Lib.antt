@@ -1,3 +1,4 @@
 pub mod Pairing
 pub mod Putting
 pub mod Quoting
+pub mod Retelling

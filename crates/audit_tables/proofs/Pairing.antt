@@ -6,7 +6,7 @@ use Rattle.venue_words.specs.declared.config.Config.{Config}
 use Rattle.venue_words.specs.declared.price.Best.{Best}
 use Rattle.venue_words.specs.declared.report.Report.{Report}
 use Rattle.listing.specs.Lines.{ended}
-use Rattle.audit_tables.specs.Trades.{IsNextTraded, is_traded, trade_line, trade_lines, trade_of, trades_in, two_by_two}
+use Rattle.audit_tables.specs.Trades.{IsNextTraded, Trade, is_traded, trade_line, trade_lines, trade_of, trades_in, two_by_two}
 
 -- those of some reports
 abbrev traded : List Report → List Report
@@ -60,6 +60,24 @@ pub none_of : (found : Option ℕ) → ((place : ℕ) → found ≡ Some place �
 none_of None other = refl
 none_of (Some place) other = absurd (other place refl)
 
+-- ---- the trades that are still to come
+
+-- one more trade
+pub trades_on : (reports : List Report) (place first second : ℕ) (taker contra : Report) → IsNextTraded reports place first → IsNextTraded reports (first + 1) second
+    → taker ≡ get_or reports first taker → contra ≡ get_or reports second contra
+    → trades_in (drop place reports) ≡ trade_of taker contra ∷ trades_in (drop (second + 1) reports)
+trades_on reports place first second taker contra a b taker_is contra_is =
+    ap two_by_two (rest_of reports place first taker a taker_is ∙ ap (λ (l : List Report). taker ∷ l) (rest_of reports (first + 1) second contra b contra_is))
+
+-- no more trades
+pub trades_over : (reports : List Report) (place : ℕ) → filter is_traded (drop place reports) ≡ [] → trades_in (drop place reports) ≡ []
+trades_over reports place none = ap two_by_two none
+
+-- a report of a trade without another one
+pub trades_odd : (reports : List Report) (place first : ℕ) → IsNextTraded reports place first → filter is_traded (drop (first + 1) reports) ≡ []
+    → trades_in (drop place reports) ≡ []
+trades_odd reports place first a none = ap two_by_two (a.rest ∙ ap (λ (l : List Report). a.report ∷ l) none)
+
 -- ---- the lines
 
 -- one more trade
@@ -70,30 +88,16 @@ pub lines_on : (config : Config) (symbol : ℕ) (best : Best) (reports : List Re
     → out ++ trade_lines config symbol best (trades_in (drop place reports)) ≡ whole
     → more ++ trade_lines config symbol best (trades_in (drop (second + 1) reports)) ≡ whole
 lines_on config symbol best reports place first second taker contra out more whole a b taker_is contra_is pushed was =
-    let lines = λ (l : List Report). trade_lines config symbol best (two_by_two l) in
     let line = ended (trade_line config symbol best (trade_of taker contra)) in
-    let rest = traded (drop (second + 1) reports) in
-    let both : traded (drop place reports) ≡ taker ∷ contra ∷ rest =
-    rest_of reports place first taker a taker_is ∙ ap (λ (l : List Report). taker ∷ l) (rest_of reports (first + 1) second contra b contra_is) in
-    ap (λ (o : List ℕ). o ++ lines rest) pushed
-    ∙ append_assoc out line (lines rest)
-    ∙ ap (λ (l : List Report). out ++ lines l) (sym both)
+    let rest = trade_lines config symbol best (trades_in (drop (second + 1) reports)) in
+    ap (λ (o : List ℕ). o ++ rest) pushed
+    ∙ append_assoc out line rest
+    ∙ ap (λ (l : List Trade). out ++ trade_lines config symbol best l) (sym (trades_on reports place first second taker contra a b taker_is contra_is))
     ∙ was
 
 -- no more trades
 pub lines_over : (config : Config) (symbol : ℕ) (best : Best) (reports : List Report) (place : ℕ) (out whole : List ℕ)
-    → filter is_traded (drop place reports) ≡ []
+    → trades_in (drop place reports) ≡ []
     → out ++ trade_lines config symbol best (trades_in (drop place reports)) ≡ whole → out ≡ whole
 lines_over config symbol best reports place out whole none was =
-    sym (append-nil out)
-    ∙ ap (λ (l : List Report). out ++ trade_lines config symbol best (two_by_two l)) (sym none)
-    ∙ was
-
--- a report of a trade without another one
-pub lines_odd : (config : Config) (symbol : ℕ) (best : Best) (reports : List Report) (place first : ℕ) (out whole : List ℕ)
-    → IsNextTraded reports place first → filter is_traded (drop (first + 1) reports) ≡ []
-    → out ++ trade_lines config symbol best (trades_in (drop place reports)) ≡ whole → out ≡ whole
-lines_odd config symbol best reports place first out whole a none was =
-    let lines = λ (l : List Report). trade_lines config symbol best (two_by_two l) in
-    let one : traded (drop place reports) ≡ a.report ∷ [] = a.rest ∙ ap (λ (l : List Report). a.report ∷ l) none in
-    sym (append-nil out) ∙ ap (λ (l : List Report). out ++ lines l) (sym one) ∙ was
+    sym (append-nil out) ∙ ap (λ (l : List Trade). out ++ trade_lines config symbol best l) (sym none) ∙ was

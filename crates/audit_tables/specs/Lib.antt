@@ -3,3 +3,5 @@ pub mod Quotes
 pub mod Tables
 pub mod Cells
 pub mod Asked
+pub mod Again
+pub mod Sought

@@ -1,9 +1,9 @@
 //! What is asked of a day.
 ghost use Rattle.std.specs.Prelude.{◌≡◌};
+ghost use Rattle.audit_tables.specs.Asked.{is_named};
 
 use listing::name_at;
 use std::marker::{Brand, PhantomData};
-use symbol_book::Book;
 use venue_words::Config;
 
 /// What a day has of that which is asked for.
@@ -11,7 +11,7 @@ use venue_words::Config;
 pub enum Found {
     /// The config has no symbol of that name.
     NoSymbol,
-    /// The symbol's journal ends before the event.
+    /// The symbol's journal has no such event.
     NoEvent,
     /// No order entered at the event.
     NoOrder,
@@ -36,20 +36,39 @@ impl Asked for Brand {
     ghost event = { 0 };
 }
 
+/// Whether a symbol has the name that is asked for.
+#[tactic(auto, unfolding(crate::specs::Asked::is_named))]
+pub fn is_named(name: &[u8], config: &Config, symbol: u32) -> bool
+    ensures { result ≡ is_named name.now config.now symbol }
+{
+    name_at(config.symbols.as_slice(), symbol) == name
+}
+
+/// What is found of a symbol's event in a config, before any event.
+pub fn found_in(name: &[u8], config: &Config) -> Found {
+    if config
+        .symbols
+        .as_slice()
+        .iter()
+        .any(|symbol| symbol.as_slice() == name)
+    {
+        Found::NoEvent
+    } else {
+        Found::NoSymbol
+    }
+}
+
 /// The question that a type stands for.
 #[derive(Drop)]
 pub struct Question<'a, A: Asked> {
-    name: &'a [u8],
-    event: u32,
+    pub name: &'a [u8],
+    pub event: u32,
     of: PhantomData<A>,
     ghost is_name: { name.now ≡ A.name },
     ghost is_event: { event ≡ A.event },
 }
 
 impl<'a, A: Asked> Question<'a, A> {
-    ghost use Rattle.std.specs.Prelude.{◌≡◌, ◌==◌};
-    ghost use Rattle.audit_tables.specs.Asked.{is_behind, is_named};
-
     /// The question.
     pub fn new(name: &'a [u8], event: u32) -> Question<'a, A>
         requires name { name.now ≡ A.name }
@@ -59,44 +78,6 @@ impl<'a, A: Asked> Question<'a, A> {
             name,
             event,
             of: PhantomData,
-        }
-    }
-
-    /// Whether a symbol has the name that is asked for.
-    #[tactic(auto, unfolding(crate::specs::Asked::is_named))]
-    pub fn is_of(&self, config: &Config, symbol: u32) -> bool
-        ensures { result ≡ is_named A.name config.now symbol }
-    {
-        name_at(config.symbols.as_slice(), symbol) == self.name
-    }
-
-    /// The number of the event that is asked for.
-    pub fn event(&self) -> u32
-        ensures { result ≡ A.event }
-    {
-        self.event
-    }
-
-    /// Whether a symbol's book stands behind the event that is asked for.
-    #[tactic(auto, unfolding(crate::specs::Asked::is_behind))]
-    pub fn is_behind(&self, config: &Config, symbol: u32, book: &Book) -> bool
-        ensures { result ≡ is_behind A.name A.event config.now symbol book.now.journal }
-    {
-        self.is_of(config, symbol) && book.journal().len() == self.event as usize
-    }
-
-    /// What is found of it in a config, before any event.
-    pub fn found_in(&self, config: &Config) -> Found {
-        let name = self.name;
-        if config
-            .symbols
-            .as_slice()
-            .iter()
-            .any(|symbol| symbol.as_slice() == name)
-        {
-            Found::NoEvent
-        } else {
-            Found::NoSymbol
         }
     }
 }

@@ -82,6 +82,15 @@ impl<R: Rows + Drop, K: Sink + Drop> RowTable<R, K> {
         &self.rows
     }
 
+    /// What its lines say, and the sink that it went to.
+    pub fn into_parts(self) -> (R, K)
+        ensures told { K.told result.1 ≡ (⟦<RowTable<R, K> as Watch>⟧.output self).told }
+    {
+        let RowTable { rows, lines } = self;
+        let Lines { out, .. } = lines;
+        (rows, out)
+    }
+
     /// The sink that it went to.
     pub fn into_out(self) -> K
         ensures told { K.told result ≡ (⟦<RowTable<R, K> as Watch>⟧.output self).told }

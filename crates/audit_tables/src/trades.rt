@@ -1,105 +1,83 @@
 //! The table of trades.
-ghost use Rattle.std.specs.Prelude.{◌≡◌, ◌++◌, [], IfOk, OnOk};
+ghost use Rattle.std.specs.Prelude.{◌≡◌, ◌++◌, OnOk};
 ghost use Rattle.audit_tables.specs.Trades.{trade_header};
 
-use crate::lines::Lines;
-use crate::quotes::{no_quotes, note_last};
-use crate::table::Table;
+use crate::quotes::{no_quotes, note_event};
+use crate::rows::{RowTable, Rows};
 use crate::trade_line::push_trades;
-use audit_core::{Watch, WatchFault};
 use best_prices::Markets;
-use io_edge::{Failed, Sink};
 use std::alloc::Global;
 use symbol_book::Book;
 use venue_words::{Config, NoMemory, Report};
 
-/// A table of trades on its way to a sink: a line for each, with the national quote behind its event.
+/// Tells of each trade, with the national quote behind its event.
 #[derive(Drop)]
-pub struct TradeTable<K: Drop> {
+pub struct TradeRows {
     alloc: Global,
     /// The quotes of the markets in the symbol whose events come.
     markets: Markets,
-    lines: Lines<K>,
 }
+
+/// A line for each trade, on its way to a sink.
+pub type TradeTable<K> = RowTable<TradeRows, K>;
 
 /// Appends the line of the fields' names. A refusal may leave a part of it.
 fn push_header(out: &mut Vec<u8>) -> Result<(), NoMemory>
     ensures { OnOk result (out.new.items ≡ out.old.items ++ trade_header) }
 {
     out.extend_from_slice(
-        b"symbol,event,moment,price,quantity,buy_order,sell_order,buyer,seller,bid,offer\n",
+        b"symbol,event,moment,price,quantity,buy_order,sell_order,buyer,seller,bid,offer,buyer_clordid,seller_clordid,taker,buyer_at_limit,seller_at_limit\n",
     )?;
     Ok(())
 }
 
-impl<K: Sink + Drop> TradeTable<K> {
-    /// An empty table that goes to this sink.
-    pub fn new(alloc: Global, out: K) -> Result<TradeTable<K>, NoMemory>
-        ensures output { IfOk result (λ table. ⟦<TradeTable<K> as Watch>⟧.output table ≡ record { told = K.told out; held = [] }) }
-        ensures faults { IfOk result (λ table. ⟦<TradeTable<K> as Watch>⟧.faults table ≡ K.faults out) }
-    {
-        Ok(TradeTable {
+impl TradeRows {
+    /// Nothing is told yet.
+    pub fn new(alloc: Global) -> Result<TradeRows, NoMemory> {
+        Ok(TradeRows {
             alloc,
             markets: Markets::new(alloc, 0)?,
-            lines: Lines::new(alloc, out)?,
         })
-    }
-
-    /// The sink that it went to.
-    pub fn into_out(self) -> K
-        ensures told { K.told result ≡ (⟦<TradeTable<K> as Watch>⟧.output self).told }
-    {
-        let TradeTable { lines, .. } = self;
-        let Lines { out, .. } = lines;
-        out
     }
 }
 
-impl<K: Sink + Drop> Watch for TradeTable<K> {
+impl Rows for TradeRows {
     ghost use Rattle.audit_tables.specs.Quotes.{HasQuotes};
-    ghost use Rattle.audit_tables.specs.Trades.{trade_telling};
+    ghost use Rattle.audit_tables.specs.Trades.{trade_header, trade_telling};
 
     ghost tells = { trade_telling };
 
-    ghost output = { λ table. record { told = K.told table.lines.out; held = table.lines.bytes.items } };
+    ghost header = { trade_header };
 
-    ghost faults = { λ table. K.faults table.lines.out };
+    ghost heard = { λ rows config symbol journal. HasQuotes config symbol journal rows.markets };
 
-    ghost heard = { λ table config symbol journal. HasQuotes config symbol journal table.markets };
+    fn begin(&mut self, out: &mut Vec<u8>, config: &Config) -> Result<(), NoMemory> {
+        self.markets = no_quotes(self.alloc, config)?;
+        push_header(out)
+    }
 
-    fn on_event(
+    fn push_event(
         &mut self,
+        out: &mut Vec<u8>,
         config: &Config,
         symbol: u32,
         book: &Book,
         made: &[Report],
-    ) -> Result<(), WatchFault> {
-        note_last(&mut self.markets, book.journal());
+    ) -> Result<(), NoMemory> {
+        note_event(&mut self.markets, config, symbol, book);
         let best = self.markets.best();
-        push_trades(&mut self.lines.bytes, config, symbol, best, made)?;
-        match self.lines.put_piece() {
-            Ok(()) => Ok(()),
-            Err(_) => Err(WatchFault::WriteFault),
-        }
-    }
-
-    fn on_end(&mut self, config: &Config, _symbol: u32, _book: &Book) -> Result<(), WatchFault> {
-        self.markets = no_quotes(self.alloc, config)?;
+        push_trades(out, config, symbol, best, made)?;
         Ok(())
     }
-}
 
-impl<K: Sink + Drop> Table for TradeTable<K> {
-    ghost use Rattle.audit_tables.specs.Trades.{trade_header};
-
-    ghost header = { trade_header };
-
-    fn begin(&mut self, config: &Config) -> Result<(), NoMemory> {
+    fn push_end(
+        &mut self,
+        _out: &mut Vec<u8>,
+        config: &Config,
+        _symbol: u32,
+        _book: &Book,
+    ) -> Result<(), NoMemory> {
         self.markets = no_quotes(self.alloc, config)?;
-        push_header(&mut self.lines.bytes)
-    }
-
-    fn finish(&mut self) -> Result<(), Failed> {
-        self.lines.put_all()
+        Ok(())
     }
 }

@@ -88,12 +88,14 @@ pub fn tell_chart(rt: &HostRuntime, files: AuditFiles<'_>, symbol: &str, drawn: 
     }
 }
 
-/// Tells that EVENT is no number of an event.
+/// Tells that no event is named.
 pub fn tell_bad_event(rt: &HostRuntime) -> Exit
     ensures { IsExit Exit.BadWords result }
 {
     told(
-        eprintln!(rt; "pegaudit: EVENT is a number from 1 to 4294967295"),
+        eprintln!(rt;
+            "pegaudit: EVENT is a number from 1 to 4294967295, a time of day as 14:30:00.123, or a member and a ClOrdID"
+        ),
         Exit::BadWords,
     )
 }
@@ -105,12 +107,61 @@ pub fn tell_many_feeds(rt: &HostRuntime) -> Exit
     told(eprintln!(rt; "pegaudit: at most 64 feeds"), Exit::BadWords)
 }
 
+/// What names an event of a symbol on the command line.
+#[derive(Clone, Copy, Debug)]
+pub enum Place<'a> {
+    /// Its number.
+    Event(u32),
+    /// A time of day, as it was written and in milliseconds since midnight: the last event that came no later.
+    Time(&'a str, u32),
+    /// A member and a ClOrdID(11) of an order of that member.
+    Id(&'a str, &'a str),
+}
+
+/// Tells that a symbol has no such event.
+fn tell_no_event(rt: &HostRuntime, listing: &str, symbol: &str, place: Place<'_>) -> Exit
+    ensures { IsExit Exit.NotThere result }
+{
+    let put = match place {
+        Place::Event(event) => {
+            eprintln!(rt; "pegaudit: {listing}: {symbol} has no event {event}")
+        }
+        Place::Time(time, _) => {
+            eprintln!(rt; "pegaudit: {listing}: {symbol} has no event by {time}")
+        }
+        Place::Id(member, id) => {
+            eprintln!(rt;
+                "pegaudit: {listing}: {symbol} has no order of {member} with ClOrdID {id}"
+            )
+        }
+    };
+    told(put, Exit::NotThere)
+}
+
+/// Tells that no order entered there.
+fn tell_no_order(rt: &HostRuntime, listing: &str, symbol: &str, place: Place<'_>) -> Exit
+    ensures { IsExit Exit.NotThere result }
+{
+    let put = match place {
+        Place::Event(event) => eprintln!(rt;
+            "pegaudit: {listing}: no order of {symbol} entered at event {event}"
+        ),
+        Place::Time(time, _) => eprintln!(rt;
+            "pegaudit: {listing}: no order of {symbol} entered at the last event by {time}"
+        ),
+        Place::Id(member, id) => eprintln!(rt;
+            "pegaudit: {listing}: no order of {symbol} entered for {member} with ClOrdID {id}"
+        ),
+    };
+    told(put, Exit::NotThere)
+}
+
 /// Tells what the day does not have of that which was asked for.
 pub fn tell_found(
     rt: &HostRuntime,
     files: AuditFiles<'_>,
     symbol: &str,
-    event: u32,
+    place: Place<'_>,
     found: Found,
 ) -> Exit
     ensures { IsExit (exit_of_found found) result }
@@ -121,19 +172,7 @@ pub fn tell_found(
             eprintln!(rt; "pegaudit: {}: no symbol {symbol}", files.config),
             Exit::BadWords,
         ),
-        Found::NoEvent => told(
-            eprintln!(rt;
-                "pegaudit: {}: {symbol} has no event {event}",
-                files.listing
-            ),
-            Exit::NotThere,
-        ),
-        Found::NoOrder => told(
-            eprintln!(rt;
-                "pegaudit: {}: no order of {symbol} entered at event {event}",
-                files.listing
-            ),
-            Exit::NotThere,
-        ),
+        Found::NoEvent => tell_no_event(rt, files.listing, symbol, place),
+        Found::NoOrder => tell_no_order(rt, files.listing, symbol, place),
     }
 }

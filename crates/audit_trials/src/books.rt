@@ -1,10 +1,10 @@
 //! A symbol's book behind an event.
 ghost use Rattle.std.specs.Prelude.{◌≡◌};
 
-use audit_book::{BookRows, BookTable};
+use audit_book::BookRows;
 use audit_core::{AuditFiles, Verdict};
 use audit_tables::asked::{Asked, Found, Question};
-use audit_tables::{Table, tabulate};
+use audit_tables::{RowTable, Table, tabulate};
 use io_edge::{MemShelf, MemSink};
 use std::alloc::Global;
 use std::marker::Brand;
@@ -35,13 +35,13 @@ const DAY: &[&[u8]] = &[
 ];
 
 const BEHIND_TRADE: &[u8] =
-    b"ACME behind event 5 at 14:30:02.000: bid 50.0000, offer 50.0200\nbuys           since                  entered                leaves     minimum    member\n50.0100        2        14:30:01.000  2        14:30:01.000  300        200        FUND\n50.0100        4        14:30:02.000  4        14:30:02.000  50         -          DESK\n50.0000        3        14:30:01.000  3        14:30:01.000  100        -          BANK\nsells          since                  entered                leaves     minimum    member\n";
+    b"ACME behind event 5 at 14:30:02.000: bid 50.0000, offer 50.0200\nbuys           since                  entered                leaves     minimum    member\n50.0100        2        14:30:01.000  2        14:30:01.000  300        200        FUND\n50.0100        4        14:30:02.000  4        14:30:02.000  50         -          DESK\n50.0000        3        14:30:01.000  3        14:30:01.000  100        -          BANK\nsells          since                  entered                leaves     minimum    member\nbuys by price  shares     orders\n50.0100        350        2\n50.0000        100        1\nsells by price shares     orders\n";
 
 const BEHIND_REPRICE: &[u8] =
-    b"ACME behind event 6 at 14:30:03.000: bid 50.0100, offer 50.0200\nbuys           since                  entered                leaves     minimum    member\n50.0150        6        14:30:03.000  2        14:30:01.000  300        200        FUND\n50.0100        4        14:30:02.000  4        14:30:02.000  50         -          DESK\n50.0100        6        14:30:03.000  3        14:30:01.000  100        -          BANK\nsells          since                  entered                leaves     minimum    member\n";
+    b"ACME behind event 6 at 14:30:03.000: bid 50.0100, offer 50.0200\nbuys           since                  entered                leaves     minimum    member\n50.0150        6        14:30:03.000  2        14:30:01.000  300        200        FUND\n50.0100        4        14:30:02.000  4        14:30:02.000  50         -          DESK\n50.0100        6        14:30:03.000  3        14:30:01.000  100        -          BANK\nsells          since                  entered                leaves     minimum    member\nbuys by price  shares     orders\n50.0150        300        1\n50.0100        150        2\nsells by price shares     orders\n";
 
 const BEHIND_LOCK: &[u8] =
-    b"ACME behind event 7 at 14:30:04.000: bid 50.0200, offer 50.0200\nbuys           since                  entered                leaves     minimum    member\n50.0200        7        14:30:04.000  3        14:30:01.000  100        -          BANK\n50.0100        4        14:30:02.000  4        14:30:02.000  50         -          DESK\nlocked quote   7        14:30:04.000  2        14:30:01.000  300        200        FUND\nsells          since                  entered                leaves     minimum    member\n";
+    b"ACME behind event 7 at 14:30:04.000: bid 50.0200, offer 50.0200\nbuys           since                  entered                leaves     minimum    member\n50.0200        7        14:30:04.000  3        14:30:01.000  100        -          BANK\n50.0100        4        14:30:02.000  4        14:30:02.000  50         -          DESK\nlocked quote   7        14:30:04.000  2        14:30:01.000  300        200        FUND\nsells          since                  entered                leaves     minimum    member\nbuys by price  shares     orders\n50.0200        100        1\n50.0100        50         1\nsells by price shares     orders\n";
 
 /// The config and the listing of the day.
 pub(crate) fn day_files(alloc: Global) -> Result<Vec<(String, Vec<u8>)>, Fail> {
@@ -94,8 +94,8 @@ fn book_of<A: Asked, L: Ledger>(
 {
     let mut steps = Steps::<L>::start(blank);
     let question: Question<'_, A> = Question::new(name, event);
-    let rows = BookRows::new(alloc, question)?;
-    let mut table = BookTable::new(alloc, rows, MemSink::new(alloc, Vec::new(alloc)))?;
+    let rows: BookRows<'_, A> = BookRows::new(alloc, question)?;
+    let mut table = RowTable::new(alloc, rows, MemSink::new(alloc, Vec::new(alloc)))?;
     let tabulated = tabulate_day(alloc, &mut table, &mut steps);
     let found = table.rows().found();
     let out = table.into_out();

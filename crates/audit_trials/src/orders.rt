@@ -2,7 +2,8 @@
 ghost use Rattle.std.specs.Prelude.{◌≡◌};
 
 use crate::books::tabulate_day;
-use audit_order::{OrderRows, OrderTable};
+use audit_order::OrderRows;
+use audit_tables::RowTable;
 use audit_tables::asked::{Asked, Found, Question};
 use io_edge::MemSink;
 use std::alloc::Global;
@@ -37,8 +38,8 @@ fn life_of<A: Asked, L: Ledger>(
 {
     let mut steps = Steps::<L>::start(blank);
     let question: Question<'_, A> = Question::new(name, event);
-    let rows = OrderRows::new(alloc, question)?;
-    let mut table = OrderTable::new(alloc, rows, MemSink::new(alloc, Vec::new(alloc)))?;
+    let rows: OrderRows<'_, A> = OrderRows::new(alloc, question)?;
+    let mut table = RowTable::new(alloc, rows, MemSink::new(alloc, Vec::new(alloc)))?;
     let tabulated = tabulate_day(alloc, &mut table, &mut steps);
     let found = table.rows().found();
     let out = table.into_out();

@@ -12,7 +12,7 @@ use std::test::Fail;
 use venue_words::Steps;
 
 const SUMMARY: &[u8] =
-    b"symbol,member,events,accepted,trades,shares,resting_orders,resting_shares,rejected_1,rejected_2,rejected_3,rejected_4,rejected_5,rejected_6,rejected_7,rejected_8,rejected_9,rejected_10,rejected_11,rejected_12,rejected_13,rejected_14,rejected_15,rejected_16,rejected_17,rejected_18\nACME,FUND,1,1,0,0,1,300,0,0,0,0,0,0,0,0,0,0,0,0,0,0,0,0,0,0\nACME,DESK,1,1,1,100,1,50,0,0,0,0,0,0,0,0,0,0,0,0,0,0,0,0,0,0\nACME,BANK,2,2,1,100,1,100,0,0,0,0,0,0,0,0,0,0,0,0,0,0,0,0,0,0\n";
+    b"symbol,member,events,accepted,trades,shares,resting_orders,resting_shares,rejected_1_unknown_symbol,rejected_2_used_clordid,rejected_3_quantity,rejected_4_side,rejected_5_order_type,rejected_6_time_in_force,rejected_7_no_price,rejected_8_price,rejected_9_peg_price,rejected_10_peg_move,rejected_11_peg_offset_type,rejected_12_peg_offset,rejected_13_peg_rounding,rejected_14_minimum,rejected_15_minimum_method,rejected_16_unknown_order,rejected_17_other_side,rejected_18_traded_quantity\nACME,FUND,1,1,0,0,1,300,0,0,0,0,0,0,0,0,0,0,0,0,0,0,0,0,0,0\nACME,DESK,1,1,1,100,1,50,0,0,0,0,0,0,0,0,0,0,0,0,0,0,0,0,0,0\nACME,BANK,2,2,1,100,1,100,0,0,0,0,0,0,0,0,0,0,0,0,0,0,0,0,0,0\nACME,*,4,4,1,100,3,450,0,0,0,0,0,0,0,0,0,0,0,0,0,0,0,0,0,0\n";
 
 fn look_at_summary<L: Ledger>(rt: &impl Abort, alloc: Global, blank: Blank) -> Result<(), Fail>
     requires name { blank.name ≡ L.name }

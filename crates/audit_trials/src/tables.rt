@@ -3,7 +3,7 @@ ghost use Rattle.std.specs.Prelude.{◌≡◌};
 
 use crate::tests::{FILES, PART, listing_with, shelf_of};
 use audit_core::{AuditFault, AuditRefusal, Verdict};
-use audit_tables::{TradeTable, tabulate};
+use audit_tables::{TradeRows, TradeTable, tabulate};
 use io_edge::MemSink;
 use std::alloc::Global;
 use std::marker::Brand;
@@ -13,10 +13,10 @@ use std::test::Fail;
 use venue_words::Steps;
 
 const HEADER: &[u8] =
-    b"symbol,event,moment,price,quantity,buy_order,sell_order,buyer,seller,bid,offer\n";
+    b"symbol,event,moment,price,quantity,buy_order,sell_order,buyer,seller,bid,offer,buyer_clordid,seller_clordid,taker,buyer_at_limit,seller_at_limit\n";
 
 const TRADES: &[u8] =
-    b"symbol,event,moment,price,quantity,buy_order,sell_order,buyer,seller,bid,offer\nX,3,20240102-14:30:00.000,10.0050,100,X-2,X-3,A,B,10.00,10.01\n";
+    b"symbol,event,moment,price,quantity,buy_order,sell_order,buyer,seller,bid,offer,buyer_clordid,seller_clordid,taker,buyer_at_limit,seller_at_limit\nX,3,20240102-14:30:00.000,10.0050,100,X-2,X-3,A,B,10.00,10.01,a1,b1,seller,-,-\n";
 
 /// Puts the table of a listing, and gives the line that differs, where one does.
 fn line_of<L: Ledger>(
@@ -43,7 +43,11 @@ fn trades_with<L: Ledger>(
     steps: &mut Steps<L>,
 ) -> Result<(MemSink, Option<u32>), Fail> {
     let listing = listing_with(alloc, place, text)?;
-    let mut table = TradeTable::new(alloc, MemSink::new(alloc, Vec::new(alloc)))?;
+    let mut table = TradeTable::new(
+        alloc,
+        TradeRows::new(alloc)?,
+        MemSink::new(alloc, Vec::new(alloc)),
+    )?;
     let line = line_of(alloc, listing, &mut table, steps);
     let out = table.into_out();
     let line = line?;
@@ -89,7 +93,7 @@ fn look_at_puts<L: Ledger>(rt: &impl Abort, alloc: Global, blank: Blank) -> Resu
     let mut shelf = shelf_of(alloc, listing, 300, Vec::new(alloc))?;
     let mut fails = Vec::new(alloc);
     fails.push(1)?;
-    let mut table = TradeTable::new(alloc, MemSink::new(alloc, fails))?;
+    let mut table = TradeTable::new(alloc, TradeRows::new(alloc)?, MemSink::new(alloc, fails))?;
     let found = tabulate(alloc, FILES, &mut shelf, &mut table, &mut steps);
     assert!(rt; matches!(found, Err(AuditRefusal::Listing(AuditFault::WriteFault))));
     Ok(())

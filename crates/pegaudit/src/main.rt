@@ -1,34 +1,33 @@
 //! Audits a venue's day from its listing: `pegaudit verify CONFIG LISTING` says whether the listing is what the market's rules make
 //! of its own events, or the first line that differs, and with feeds behind it whether these events are what the feeds ask; `pegaudit trades CONFIG LISTING` puts its trades as a table,
 //! `pegaudit summary CONFIG LISTING` what each member did in each symbol, and `pegaudit chart CONFIG LISTING
-//! SYMBOL` a picture of the symbol's day. `pegaudit book CONFIG LISTING SYMBOL EVENT` puts both sides of a symbol's book behind an event, and
-//! `pegaudit order CONFIG LISTING SYMBOL EVENT` the life of the order that entered there.
+//! SYMBOL` a picture of the symbol's day. `pegaudit book CONFIG LISTING SYMBOL EVENT` puts both sides of a symbol's book after an event, and
+//! `pegaudit order CONFIG LISTING SYMBOL EVENT` the life of the order that entered there. Each of them takes `--journal JOURNAL` in the place of
+//! CONFIG and LISTING: the day of a live venue, which may be running. `pegaudit journal JOURNAL` puts a journal as a script.
 #![tactic(auto)]
 
+mod day;
+mod lookups;
 mod progress;
+mod tables;
 mod words;
 
 ghost use Rattle.std.specs.Prelude.{◌≡◌, ◌≤◌, length};
 ghost use Rattle.venue_words.specs.declared.limits.TheConstants.{MAX_FEEDS};
 
-use crate::progress::shelf_of;
-use crate::words::{Question, feeds_of, program, question_of};
-use audit_book::{BookRows, BookTable};
+use crate::day::{Day, audit_shelf, journal_in, put_journal, words_of_day};
+use crate::lookups::{book, order};
+use crate::tables::{put_summary, put_trades};
+use crate::words::{DayQuestion, Question, feeds_of, program, question_of};
 use audit_chart::draw_day;
-use audit_core::AuditFiles;
 use audit_core::audit::audit;
 use audit_feeds::audit_feeds;
-use audit_order::{OrderRows, OrderTable};
-use audit_summary::{SummaryRows, SummaryTable};
-use audit_tables::asked::{self, Asked, Found};
-use audit_tables::{Table, TradeTable, tabulate};
 use audit_telling::exit::Exit;
 use audit_telling::refusals::{
     tell_explained, tell_feeds_refusal, tell_refusal, tell_unread_script,
 };
 use audit_telling::telling::{
-    tell_bad_event, tell_chart, tell_feeds_verdict, tell_found, tell_many_feeds, tell_tabled,
-    tell_verdict,
+    tell_bad_event, tell_chart, tell_feeds_verdict, tell_many_feeds, tell_verdict,
 };
 use clap::error::ErrorKind;
 use io_edge::StreamSink;
@@ -38,16 +37,16 @@ use script_explain::explain;
 use std::marker::Brand;
 use std::process::ExitCode;
 use std::sync::ledger::{Blank, Ledger};
+use std::sync::Wait;
 use std::thread::Threads;
 use venue_words::Steps;
 use venue_words::limits::MAX_FEEDS;
 
 /// Audits the files, and tells what came of it.
-fn verify<L: Ledger>(rt: &HostRuntime, files: AuditFiles<'_>, steps: &mut Steps<L>) -> Exit {
-    let mut shelf = shelf_of(rt);
-    match audit(rt.alloc(), files, &mut shelf, steps) {
-        Ok(verdict) => tell_verdict(rt, files, verdict),
-        Err(refusal) => tell_refusal(rt, files, refusal),
+fn verify<L: Ledger>(rt: &HostRuntime, day: &mut Day<'_>, steps: &mut Steps<L>) -> Exit {
+    match audit(rt.alloc(), day.files, &mut day.shelf, steps) {
+        Ok(verdict) => tell_verdict(rt, day.files, verdict),
+        Err(refusal) => tell_refusal(rt, day.files, refusal),
     }
 }
 
@@ -55,16 +54,15 @@ fn verify<L: Ledger>(rt: &HostRuntime, files: AuditFiles<'_>, steps: &mut Steps<
 fn verify_feeds<R: Threads + Sync, L: Ledger>(
     threads: &R,
     rt: &HostRuntime,
-    files: AuditFiles<'_>,
+    day: &mut Day<'_>,
     feeds: &[&str],
     steps: &mut Steps<L>,
 ) -> Exit
     requires { length feeds.now ≤ MAX_FEEDS }
 {
-    let mut shelf = shelf_of(rt);
-    match audit_feeds(threads, rt.alloc(), files, feeds, &mut shelf, steps) {
-        Ok(verdict) => tell_feeds_verdict(rt, files, verdict),
-        Err(refusal) => tell_feeds_refusal(rt, files, feeds, refusal),
+    match audit_feeds(threads, rt.alloc(), day.files, feeds, &mut day.shelf, steps) {
+        Ok(verdict) => tell_feeds_verdict(rt, day.files, verdict),
+        Err(refusal) => tell_feeds_refusal(rt, day.files, feeds, refusal),
     }
 }
 
@@ -72,61 +70,29 @@ fn verify_feeds<R: Threads + Sync, L: Ledger>(
 fn verify_all<R: Threads + Sync, L: Ledger>(
     threads: &R,
     rt: &HostRuntime,
-    files: AuditFiles<'_>,
+    day: &mut Day<'_>,
     feeds: &[&str],
     steps: &mut Steps<L>,
 ) -> Exit {
     if feeds.is_empty() {
-        return verify(rt, files, steps);
+        return verify(rt, day, steps);
     }
     if MAX_FEEDS < feeds.len() {
         return tell_many_feeds(rt);
     }
-    verify_feeds(threads, rt, files, feeds, steps)
-}
-
-/// Audits the files, and puts a table of the day.
-fn put_table<T: Table, L: Ledger>(
-    rt: &HostRuntime,
-    files: AuditFiles<'_>,
-    table: &mut T,
-    steps: &mut Steps<L>,
-) -> Exit {
-    let mut shelf = shelf_of(rt);
-    match tabulate(rt.alloc(), files, &mut shelf, table, steps) {
-        Ok(verdict) => tell_tabled(rt, files, verdict),
-        Err(refusal) => tell_refusal(rt, files, refusal),
-    }
-}
-
-/// Audits the files, and puts the table of its trades.
-fn put_trades<L: Ledger>(rt: &HostRuntime, files: AuditFiles<'_>, steps: &mut Steps<L>) -> Exit {
-    match TradeTable::new(rt.alloc(), StreamSink::new(rt.stdout())) {
-        Ok(mut table) => put_table(rt, files, &mut table, steps),
-        Err(_) => Exit::NoMemory,
-    }
-}
-
-/// Audits the files, and puts what each member did in each symbol.
-fn put_summary<L: Ledger>(rt: &HostRuntime, files: AuditFiles<'_>, steps: &mut Steps<L>) -> Exit {
-    let rows = SummaryRows::new(rt.alloc());
-    match SummaryTable::new(rt.alloc(), rows, StreamSink::new(rt.stdout())) {
-        Ok(mut table) => put_table(rt, files, &mut table, steps),
-        Err(_) => Exit::NoMemory,
-    }
+    verify_feeds(threads, rt, day, feeds, steps)
 }
 
 /// Audits the files, and puts the picture of a symbol's day.
 fn draw<L: Ledger>(
     rt: &HostRuntime,
-    files: AuditFiles<'_>,
+    day: &mut Day<'_>,
     symbol: &str,
     steps: &mut Steps<L>,
 ) -> Exit {
-    let mut shelf = shelf_of(rt);
-    match draw_day(rt.alloc(), files, symbol, &mut shelf, steps) {
-        Ok(drawn) => tell_chart(rt, files, symbol, drawn),
-        Err(refusal) => tell_refusal(rt, files, refusal),
+    match draw_day(rt.alloc(), day.files, symbol, &mut day.shelf, steps) {
+        Ok(drawn) => tell_chart(rt, day.files, symbol, drawn),
+        Err(refusal) => tell_refusal(rt, day.files, refusal),
     }
 }
 
@@ -142,106 +108,65 @@ fn put_explained<L: Ledger>(rt: &HostRuntime, name: &str, steps: &mut Steps<L>) 
     }
 }
 
-/// Audits the files, and puts the book that the type stands for.
-fn put_book<A: Asked, L: Ledger>(
-    rt: &HostRuntime,
-    files: AuditFiles<'_>,
-    name: &[u8],
-    event: u32,
-    steps: &mut Steps<L>,
-) -> (Exit, Found)
-    requires name { name.now ≡ A.name }
-    requires event { event ≡ A.event }
-{
-    let question: asked::Question<'_, A> = asked::Question::new(name, event);
-    let Ok(rows) = BookRows::new(rt.alloc(), question) else {
-        return (Exit::NoMemory, Found::All);
-    };
-    match BookTable::new(rt.alloc(), rows, StreamSink::new(rt.stdout())) {
-        Ok(mut table) => {
-            let exit = put_table(rt, files, &mut table, steps);
-            (exit, table.rows().found())
-        }
-        Err(_) => (Exit::NoMemory, Found::All),
-    }
-}
-
-/// Audits the files, and puts the book of a symbol behind an event.
-fn book<L: Ledger>(
-    rt: &HostRuntime,
-    files: AuditFiles<'_>,
-    symbol: &str,
-    event: u32,
-    steps: &mut Steps<L>,
-) -> Exit {
-    match put_book::<Brand, L>(rt, files, symbol.as_bytes(), event, steps) {
-        (Exit::Done, found) => tell_found(rt, files, symbol, event, found),
-        (exit, _) => exit,
-    }
-}
-
-/// Audits the files, and puts the life of the order that the type stands for.
-fn put_order<A: Asked, L: Ledger>(
-    rt: &HostRuntime,
-    files: AuditFiles<'_>,
-    name: &[u8],
-    event: u32,
-    steps: &mut Steps<L>,
-) -> (Exit, Found)
-    requires name { name.now ≡ A.name }
-    requires event { event ≡ A.event }
-{
-    let question: asked::Question<'_, A> = asked::Question::new(name, event);
-    let Ok(rows) = OrderRows::new(rt.alloc(), question) else {
-        return (Exit::NoMemory, Found::All);
-    };
-    match OrderTable::new(rt.alloc(), rows, StreamSink::new(rt.stdout())) {
-        Ok(mut table) => {
-            let exit = put_table(rt, files, &mut table, steps);
-            (exit, table.rows().found())
-        }
-        Err(_) => (Exit::NoMemory, Found::All),
-    }
-}
-
-/// Audits the files, and puts the life of the order of a symbol that entered at an event.
-fn order<L: Ledger>(
-    rt: &HostRuntime,
-    files: AuditFiles<'_>,
-    symbol: &str,
-    event: u32,
-    steps: &mut Steps<L>,
-) -> Exit {
-    match put_order::<Brand, L>(rt, files, symbol.as_bytes(), event, steps) {
-        (Exit::Done, found) => tell_found(rt, files, symbol, event, found),
-        (exit, _) => exit,
-    }
-}
-
-/// Answers a question.
-fn run<R: Threads + Sync, L: Ledger>(
+/// Answers a question about a day.
+fn answer_of_day<R: Threads + Sync, L: Ledger>(
     threads: &R,
     rt: &HostRuntime,
-    question: Question<'_>,
+    question: DayQuestion<'_>,
+    day: Day<'_>,
     feeds: &[&str],
     blank: Blank,
 ) -> Exit
     requires { (blank.name ≡ L.name) × (blank.parts ≡ L.parts) × (L.parts ≡ 1) }
 {
     let mut steps: Steps<L> = Steps::start(blank);
+    let mut day = day;
     match question {
-        Question::Verify(files) => verify_all(threads, rt, files, feeds, &mut steps),
-        Question::Trades(files) => put_trades(rt, files, &mut steps),
-        Question::Summary(files) => put_summary(rt, files, &mut steps),
-        Question::Chart(files, symbol) => draw(rt, files, symbol, &mut steps),
-        Question::Book(files, symbol, event) => book(rt, files, symbol, event, &mut steps),
-        Question::Order(files, symbol, event) => order(rt, files, symbol, event, &mut steps),
-        Question::Explain(name) => put_explained(rt, name, &mut steps),
+        DayQuestion::Verify => verify_all(threads, rt, &mut day, feeds, &mut steps),
+        DayQuestion::Trades => put_trades(rt, &mut day, &mut steps),
+        DayQuestion::Summary => put_summary(rt, &mut day, &mut steps),
+        DayQuestion::Chart(symbol) => draw(rt, &mut day, symbol, &mut steps),
+        DayQuestion::Book(symbol, place) => book(rt, &mut day, symbol, place, &mut steps),
+        DayQuestion::Order(symbol, place) => order(rt, &mut day, symbol, place, &mut steps),
     }
 }
 
-/// Reads the words, and does what they ask for.
-fn answer<R: Threads + Sync>(threads: &R, rt: &HostRuntime, words: &[String]) -> Exit {
+/// Explains a script.
+fn explain_script<L: Ledger>(rt: &HostRuntime, name: &str, blank: Blank) -> Exit
+    requires { (blank.name ≡ L.name) × (blank.parts ≡ L.parts) × (L.parts ≡ 1) }
+{
+    let mut steps: Steps<L> = Steps::start(blank);
+    put_explained(rt, name, &mut steps)
+}
+
+/// Answers a question.
+fn run<R: Threads + Wait + Sync>(
+    threads: &R,
+    rt: &HostRuntime,
+    question: Question<'_>,
+    feeds: &[&str],
+    journal: Option<&str>,
+) -> Exit {
+    match question {
+        Question::Day(files, question) => match audit_shelf(threads, rt, journal) {
+            Ok(shelf) => {
+                let day = Day { files, shelf };
+                answer_of_day::<R, Brand>(threads, rt, question, day, feeds, Blank::new(1))
+            }
+            Err(exit) => exit,
+        },
+        Question::Journal(name, part) => put_journal(threads, rt, name, part),
+        Question::Explain(name) => explain_script::<Brand>(rt, name, Blank::new(1)),
+    }
+}
+
+/// Reads the words, and does what they ask for, of the day of a journal where one is named.
+fn answer<R: Threads + Wait + Sync>(
+    threads: &R,
+    rt: &HostRuntime,
+    words: &[String],
+    journal: Option<&str>,
+) -> Exit {
     let Ok(command) = program(rt.alloc()) else {
         return Exit::NoMemory;
     };
@@ -260,15 +185,26 @@ fn answer<R: Threads + Sync>(threads: &R, rt: &HostRuntime, words: &[String]) ->
     match question_of(&matches) {
         Some(question) => {
             let feeds = feeds_of(&matches).unwrap_or(&[]);
-            run::<R, Brand>(threads, rt, question, feeds, Blank::new(1))
+            run(threads, rt, question, feeds, journal)
         }
         None => tell_bad_event(rt),
     }
 }
 
+/// Does what the words of the command line ask for.
+fn answer_words<R: Threads + Wait + Sync>(threads: &R, rt: &HostRuntime, words: &[String]) -> Exit {
+    let Some(journal) = journal_in(words) else {
+        return answer(threads, rt, words, None);
+    };
+    match words_of_day(rt.alloc(), words) {
+        Ok(words) => answer(threads, rt, &words, Some(journal)),
+        Err(_) => Exit::NoMemory,
+    }
+}
+
 fn main(rt: HostRuntime) -> ExitCode {
     let exit = match arguments(&rt) {
-        Ok(words) => answer(&rt, &rt, words.as_slice()),
+        Ok(words) => answer_words(&rt, &rt, words.as_slice()),
         Err(WordFault::BadWords) => Exit::BadWords,
         Err(WordFault::NoMemory) => Exit::NoMemory,
     };

@@ -1,25 +1,37 @@
 //! The words of the command line.
+ghost use Rattle.std.specs.Prelude.{◌≤◌, ◌<◌, IfSome};
+
+use crate::day::Part;
 use audit_core::AuditFiles;
+use audit_telling::telling::Place;
 use clap::{Arg, ArgMatches, Command};
 use std::alloc::{AllocError, Global};
+
+/// What is asked of a day.
+#[derive(Clone, Copy, Debug)]
+pub enum DayQuestion<'a> {
+    /// Whether the listing is what the market's rules make of its own events, and these are what the feeds ask, where some are named.
+    Verify,
+    /// Its trades.
+    Trades,
+    /// What each member did in each symbol.
+    Summary,
+    /// A picture of the day of the symbol with this name.
+    Chart(&'a str),
+    /// The book of the symbol with this name after an event.
+    Book(&'a str, Place<'a>),
+    /// The life of the order of the symbol with this name that entered at an event.
+    Order(&'a str, Place<'a>),
+}
 
 /// What is asked, and of which files.
 #[derive(Clone, Copy, Debug)]
 pub enum Question<'a> {
-    /// Whether the listing is what the market's rules make of its own events, and these are what the feeds ask, where some are named.
-    Verify(AuditFiles<'a>),
-    /// Its trades.
-    Trades(AuditFiles<'a>),
-    /// What each member did in each symbol.
-    Summary(AuditFiles<'a>),
-    /// A picture of the day of the symbol with this name.
-    Chart(AuditFiles<'a>, &'a str),
+    Day(AuditFiles<'a>, DayQuestion<'a>),
+    /// A part of the journal in this file, where there is such a part.
+    Journal(&'a str, Option<Part>),
     /// What each line of the script in this file does.
     Explain(&'a str),
-    /// The book of the symbol with this name behind an event.
-    Book(AuditFiles<'a>, &'a str, u32),
-    /// The life of the order of the symbol with this name that entered at an event.
-    Order(AuditFiles<'a>, &'a str, u32),
 }
 
 /// The words behind a subcommand's name.
@@ -31,10 +43,12 @@ enum Words {
     Feeds,
     /// These, and a symbol.
     Symbol,
-    /// These, a symbol, and the number of an event.
+    /// These, a symbol, and what names an event: its number, a time of day, or a member and a ClOrdID.
     Event,
     /// A script.
     Script,
+    /// A journal, and which part of it.
+    Journal,
 }
 
 /// A subcommand: its name, what it does, and its words.
@@ -69,13 +83,18 @@ const SUBCOMMANDS: &[Subcommand] = &[
     },
     Subcommand {
         name: "book",
-        about: "Verifies a listing, and puts both sides of a symbol's book behind an event, as they queue",
+        about: "Verifies a listing, and puts both sides of a symbol's book after an event, as they queue and by price",
         words: Words::Event,
     },
     Subcommand {
         name: "order",
         about: "Verifies a listing, and puts the life of the order that entered at an event: its prices and times, its place, its trades, its end",
         words: Words::Event,
+    },
+    Subcommand {
+        name: "journal",
+        about: "Puts the lines of a live venue's journal, which may be running, as a script",
+        words: Words::Journal,
     },
     Subcommand {
         name: "explain",
@@ -118,8 +137,14 @@ fn with_words<'a>(
         Words::Event => with_symbol(alloc, command)?.arg(word(
             alloc,
             "EVENT",
-            "The number of one of the symbol's events, from 1",
-        )),
+            "The number of one of the symbol's events, from 1; or a time of day as 14:30:00.123, for the last event by then; or MEMBER CLORDID, for an order",
+        )
+        .num_args(1..=2)),
+        Words::Journal => command
+            .arg(word(alloc, "JOURNAL", "The journal of a live venue"))?
+            .arg(Arg::new(alloc, "PART").help(
+                "config: its header; feed: the lines after it; listing: what a venue lists of the two",
+            )),
         Words::Script => command.arg(word(alloc, "SCRIPT", "A script, as pegreplay reads it")),
     }
 }
@@ -135,7 +160,7 @@ pub fn program<'a>(alloc: Global) -> Result<Command<'a>, AllocError> {
     let mut program = Command::new(alloc, "pegaudit")
         .no_binary_name(true)
         .version("0.1.0")
-        .about("Audits a venue's day from its listing")
+        .about("Audits a venue's day from its listing, or from a live venue's journal: --journal JOURNAL in the place of CONFIG LISTING")
         .subcommand_required(true)
         .arg_required_else_help(true);
     for asked in SUBCOMMANDS {
@@ -161,11 +186,71 @@ fn event_in(text: &str) -> Option<u32> {
     text.parse::<u32>().ok()
 }
 
-/// A symbol's name and the number of an event.
-fn event_of<'a>(command: &ArgMatches<'a>) -> Option<(&'a str, u32)> {
+/// The number of some decimal digits of a text, where it is at most this.
+fn digits_at(text: &[u8], from: usize, to: usize, most: u32) -> Option<u32>
+    requires { most < 1000 }
+    ensures { IfSome result (λ number. number ≤ most) }
+{
+    let mut number = 0;
+    for byte in text.get(from..to)? {
+        if !byte.is_ascii_digit() || 999 < number {
+            return None;
+        }
+        number = number * 10 + u32::from(*byte - b'0');
+    }
+    if number <= most { Some(number) } else { None }
+}
+
+/// Whether a text has this byte at a place.
+fn has_at(text: &[u8], place: usize, byte: u8) -> bool {
+    text.get(place).copied() == Some(byte)
+}
+
+/// The milliseconds since midnight of a time of day: `14:30`, `14:30:00` or `14:30:00.123`.
+fn time_in(text: &str) -> Option<u32> {
+    let text = text.as_bytes();
+    let hours = digits_at(text, 0, 2, 23)?;
+    let minutes = digits_at(text, 3, 5, 59)?;
+    let begin = (hours * 60 + minutes) * 60_000;
+    if !has_at(text, 2, b':') {
+        return None;
+    }
+    if text.len() == 5 {
+        return Some(begin);
+    }
+    let seconds = digits_at(text, 6, 8, 59)?;
+    if !has_at(text, 5, b':') {
+        return None;
+    }
+    if text.len() == 8 {
+        return Some(begin + seconds * 1000);
+    }
+    let rest = digits_at(text, 9, 12, 999)?;
+    if !has_at(text, 8, b'.') || text.len() != 12 {
+        return None;
+    }
+    Some(begin + seconds * 1000 + rest)
+}
+
+/// What names an event.
+fn place_in<'a>(words: &[&'a str]) -> Option<Place<'a>> {
+    match words {
+        [word] => {
+            if let Some(event) = event_in(word) {
+                return Some(Place::Event(event));
+            }
+            Some(Place::Time(word, time_in(word)?))
+        }
+        [member, id] => Some(Place::Id(member, id)),
+        _ => None,
+    }
+}
+
+/// A symbol's name, and what names an event of it.
+fn event_of<'a>(command: &ArgMatches<'a>) -> Option<(&'a str, Place<'a>)> {
     Some((
         command.get_str("SYMBOL")?,
-        event_in(command.get_str("EVENT")?)?,
+        place_in(command.get_strs("EVENT")?)?,
     ))
 }
 
@@ -174,28 +259,50 @@ pub fn feeds_of<'m, 'a>(matches: &'m ArgMatches<'a>) -> Option<&'m [&'a str]> {
     matches.subcommand_matches("verify")?.get_strs("FEED")
 }
 
+/// The part of a journal that a word names.
+fn part_in(word: Option<&str>) -> Option<Part> {
+    match word {
+        None => Some(Part::Script),
+        Some("config") => Some(Part::Config),
+        Some("feed") => Some(Part::Feed),
+        Some("listing") => Some(Part::Listing),
+        Some(_) => None,
+    }
+}
+
+/// What is asked of a day by a subcommand of this name.
+fn day_question<'a>(name: &str, command: &ArgMatches<'a>) -> Option<DayQuestion<'a>> {
+    match name {
+        "verify" => Some(DayQuestion::Verify),
+        "trades" => Some(DayQuestion::Trades),
+        "summary" => Some(DayQuestion::Summary),
+        "chart" => Some(DayQuestion::Chart(command.get_str("SYMBOL")?)),
+        "book" => {
+            let (symbol, place) = event_of(command)?;
+            Some(DayQuestion::Book(symbol, place))
+        }
+        "order" => {
+            let (symbol, place) = event_of(command)?;
+            Some(DayQuestion::Order(symbol, place))
+        }
+        _ => None,
+    }
+}
+
 /// What is asked.
 pub fn question_of<'a>(matches: &ArgMatches<'a>) -> Option<Question<'a>> {
-    if let Some(verify) = matches.subcommand_matches("verify") {
-        return Some(Question::Verify(files_of(verify)?));
-    }
-    if let Some(trades) = matches.subcommand_matches("trades") {
-        return Some(Question::Trades(files_of(trades)?));
-    }
-    if let Some(summary) = matches.subcommand_matches("summary") {
-        return Some(Question::Summary(files_of(summary)?));
-    }
     if let Some(explain) = matches.subcommand_matches("explain") {
         return Some(Question::Explain(explain.get_str("SCRIPT")?));
     }
-    if let Some(book) = matches.subcommand_matches("book") {
-        let (symbol, event) = event_of(book)?;
-        return Some(Question::Book(files_of(book)?, symbol, event));
+    if let Some(journal) = matches.subcommand_matches("journal") {
+        let part = part_in(journal.get_str("PART"));
+        return Some(Question::Journal(journal.get_str("JOURNAL")?, part));
     }
-    if let Some(order) = matches.subcommand_matches("order") {
-        let (symbol, event) = event_of(order)?;
-        return Some(Question::Order(files_of(order)?, symbol, event));
+    for asked in SUBCOMMANDS {
+        if let Some(command) = matches.subcommand_matches(asked.name) {
+            let question = day_question(asked.name, command)?;
+            return Some(Question::Day(files_of(command)?, question));
+        }
     }
-    let chart = matches.subcommand_matches("chart")?;
-    Some(Question::Chart(files_of(chart)?, chart.get_str("SYMBOL")?))
+    None
 }

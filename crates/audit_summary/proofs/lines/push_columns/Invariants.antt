@@ -6,4 +6,4 @@ use Rattle.audit_summary.proofs.lines.push_columns.Given as goal
 
 abbrev pub invariant-loop-column : goal.invariant-loop-column
 invariant-loop-column l =
-    l.out.items ≡ l.initial.out.items ++ flat_map (λ column. sum_cell l.member column.items) (take l.column-index l.columns)
+    l.out.items ≡ l.initial.out.items ++ flat_map (λ column. sum_cell l.member column) (take l.column-index l.columns)

@@ -1,5 +1,5 @@
 use Rattle.std.proofs.Common.{refl, arith}
-use Rattle.audit_tables.proofs.Pairing.{lines_odd, lines_on, lines_over, none_of}
+use Rattle.audit_tables.proofs.Pairing.{lines_on, lines_over, none_of, trades_odd, trades_over}
 use Rattle.audit_tables.proofs.trade_line.push_trades.Goals as goal
 
 pub trades-init : goal.trades-init
@@ -23,9 +23,11 @@ trades-smaller c =
 
 pub returns-in_default : goal.returns-in_default
 returns-in_default c =
-    lines_over c.args.config.now c.args.symbol c.args.best c.args.reports.now c.trades.place c.trades.out.items _ (c.next_traded.ensures.none (none_of c.next_traded.result c.in_default.not-Some)) c.trades.invariant.text
+    lines_over c.args.config.now c.args.symbol c.args.best c.args.reports.now c.trades.place c.trades.out.items _
+    (trades_over c.args.reports.now c.trades.place (c.next_traded.ensures.none (none_of c.next_traded.result c.in_default.not-Some))) c.trades.invariant.text
 
 pub returns-in_default-next_traded : goal.returns-in_default-next_traded
 returns-in_default-next_traded c =
-    lines_odd c.args.config.now c.args.symbol c.args.best c.args.reports.now c.trades.place c.in-Some.first c.trades.out.items _ c.in-Some.ensures.some
-    (c.next_traded-in-trades.ensures.none (none_of c.next_traded-in-trades.result c.in_default-next_traded.not-Some)) c.trades.invariant.text
+    lines_over c.args.config.now c.args.symbol c.args.best c.args.reports.now c.trades.place c.trades.out.items _
+    (trades_odd c.args.reports.now c.trades.place c.in-Some.first c.in-Some.ensures.some
+    (c.next_traded-in-trades.ensures.none (none_of c.next_traded-in-trades.result c.in_default-next_traded.not-Some))) c.trades.invariant.text

@@ -1,0 +1,4 @@
+use Rattle.live_trials.proofs.tests.transcript.Given as goal
+
+abbrev pub ghosts-replayed : goal.ghosts-replayed
+ghosts-replayed a = record { name = a.blank.name; parts = a.blank.parts }
