@@ -2,7 +2,7 @@
 use crate::progress::{ProgressShelf, shelf_of};
 use audit_core::AuditFiles;
 use audit_journal::{
-    CONFIG, DayFault, DayShelf, FEED, JournalFault, LISTING, body_of, files_of_day, head_of,
+    CONFIG, DayFault, DayShelf, FEED, JournalFault, body_of, files_of_day, head_of,
     read_journal, text_of,
 };
 use audit_telling::exit::{Exit, told};
@@ -47,7 +47,8 @@ pub(crate) fn journal_in(words: &[String]) -> Option<&str> {
     }
 }
 
-/// The words with the names of the day's files in that place; where it is to be verified, by its feed too.
+/// The words with the names of the day's files in that place, where the listing has the journal's own name. What is to be verified is so by
+/// its feed too.
 pub(crate) fn words_of_day(alloc: Global, words: &[String]) -> Result<Vec<String>, AllocError> {
     let is_verified = words.first().is_some_and(|word| word.as_str() == "verify");
     let mut made = Vec::new(alloc);
@@ -55,7 +56,7 @@ pub(crate) fn words_of_day(alloc: Global, words: &[String]) -> Result<Vec<String
         match place {
             1 => made.push(String::from_str(alloc, CONFIG)?)?,
             2 => {
-                made.push(String::from_str(alloc, LISTING)?)?;
+                made.push(String::from_str(alloc, word)?)?;
                 if is_verified {
                     made.push(String::from_str(alloc, FEED)?)?;
                 }
@@ -118,6 +119,19 @@ fn day_in<R: Threads + Wait + Sync>(
     }
 }
 
+/// A day's files, of which the listing has this name.
+fn named(
+    alloc: Global,
+    files: Vec<(String, Vec<u8>)>,
+    name: &str,
+) -> Result<Vec<(String, Vec<u8>)>, AllocError> {
+    let mut files = files;
+    if let Some((_, listing)) = files.pop() {
+        files.push((String::from_str(alloc, name)?, listing))?;
+    }
+    Ok(files)
+}
+
 /// Where the files are: in memory, where a journal is named, and else in the system.
 pub(crate) fn audit_shelf<'a, R: Threads + Wait + Sync>(
     threads: &R,
@@ -126,7 +140,9 @@ pub(crate) fn audit_shelf<'a, R: Threads + Wait + Sync>(
 ) -> Result<AuditShelf<'a>, Exit> {
     match journal {
         Some(name) => {
-            let files = day_in(threads, rt, name)?;
+            let Ok(files) = named(rt.alloc(), day_in(threads, rt, name)?, name) else {
+                return Err(Exit::NoMemory);
+            };
             let no_fails = Vec::new(rt.alloc());
             Ok(DayShelf::Day(MemShelf::new(files, 65_536, no_fails)))
         }
