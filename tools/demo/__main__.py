@@ -161,7 +161,7 @@ def check(market, programs, folder):
     screen.put("")
     screen.put(f"The day is over. Its journal has {len(day.lines)} lines, and other programs recompute it from them:")
     screen.put(f"  pegreplay   each of the {connections} connections was sent a run of the messages that it prints, {frames} in all, byte for byte", "checked")
-    screen.put(f"  pegaudit    {said}: its {events} events are what members and markets asked, and all its reports what the rules make of them", "checked")
+    screen.put(f"  pegaudit    {said.rpartition(': ')[2]}: its {events} events are what members and markets asked, and all its reports what the rules make of them", "checked")
     screen.put(f"  members     each of its {reports} reports came to its member once, and no other: nothing that was answered is lost", "checked")
     screen.put("")
     first = trades[:3]

@@ -4,22 +4,16 @@ import re
 import shutil
 import subprocess
 
-from live_day import journal_lines, transcript_by_member, wrong_run
+from live_day import transcript_by_member, wrong_run
 from words import Failed
 
 
 class Day:
-    """The files of a day that has ended, in a folder."""
+    """A day that has ended: its journal, in a folder, and what each member got of it."""
 
     def __init__(self, folder, programs, members):
         self.folder, self.programs, self.members = folder, programs, members
-        self.lines = journal_lines(folder / "day.journal")
-        begin = next(number for number, line in enumerate(self.lines) if line.startswith(b"BEGIN "))
-        self.write("day.config", self.lines[:begin + 1])
-        self.write("day.feed", self.lines[begin + 1:])
-
-    def write(self, name, lines):
-        (self.folder / name).write_bytes(b"".join(line + b"\n" for line in lines))
+        self.lines = self.run("pegaudit", "journal", "day.journal").encode().splitlines()
 
     def run(self, program, *words, to=None):
         """What a program puts, or the file that it puts into."""
@@ -58,25 +52,24 @@ class Day:
 
     def audit(self):
         """Has pegaudit recompute the day. How many events, and what it says."""
-        self.run("pegvenue", "day.config", "day.feed", to="day.listing")
-        said = self.run("pegaudit", "verify", "day.config", "day.listing", "day.feed").strip()
-        events = sum(int(count) for count in re.findall(r"^S \S+ (\d+) \d+$", (self.folder / "day.listing").read_text(), re.M))
-        return events, said
+        said = self.run("pegaudit", "verify", "--journal", "day.journal").strip()
+        listing = self.run("pegaudit", "journal", "day.journal", "listing", to="day.listing")
+        return sum(int(count) for count in re.findall(r"^S \S+ (\d+) \d+$", listing, re.M)), said
 
     def trades(self):
         """The day's trades, as pegaudit has them in its table."""
-        return list(csv.DictReader(self.run("pegaudit", "trades", "day.config", "day.listing").splitlines()))
+        return list(csv.DictReader(self.run("pegaudit", "trades", "--journal", "day.journal").splitlines()))
 
     def page(self, to):
         """Leaves the day's files in a folder in the place of those of the last day, with a page to open, whose path is returned."""
         shutil.rmtree(to, ignore_errors=True)
         to.mkdir(parents=True, exist_ok=True)
-        for name in ("day.config", "day.feed", "day.listing"):
-            shutil.copyfile(self.folder / name, to / name)
+        self.run("pegaudit", "journal", "day.journal", to="day.pegv")
         if re.search(r"^ +report\b", self.run("pegaudit", "--help"), re.M):
-            name, words = "day.html", ("report", "day.config", "day.listing")
+            name, words = "day.html", ("report", "--journal", "day.journal")
         else:
-            name, words = "acme.svg", ("chart", "day.config", "day.listing", "ACME")
+            name, words = "acme.svg", ("chart", "--journal", "day.journal", "ACME")
         self.run("pegaudit", *words, to=name)
-        shutil.copyfile(self.folder / name, to / name)
+        for made in (name, "day.pegv", "day.listing"):
+            shutil.copyfile(self.folder / made, to / made)
         return to / name

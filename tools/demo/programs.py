@@ -8,7 +8,7 @@ from pathlib import Path
 import crates
 
 TOP = crates.TOP
-AFTERWARDS = ("pegreplay", "pegvenue", "pegaudit")
+AFTERWARDS = ("pegreplay", "pegaudit")
 # What a compilation takes at most, in KB.
 MEMORY = 2_500_000
 
