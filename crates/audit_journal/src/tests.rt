@@ -28,7 +28,8 @@ fn journal_of(alloc: Global, lines: &[&str], end: &[u8]) -> Result<Vec<u8>, Allo
     let mut bytes = Vec::new(alloc);
     for line in lines {
         bytes.push(1)?;
-        bytes.extend_from_slice(&[0, 0, 0, line.len() as u8])?;
+        let size = u32::try_from(line.len()).unwrap_or(0);
+        bytes.extend_from_slice(&size.to_be_bytes())?;
         bytes.extend_from_slice(line.as_bytes())?;
     }
     bytes.extend_from_slice(end)?;

@@ -90,7 +90,14 @@ fn replayed<L: Ledger>(alloc: Global, text: &[u8], blank: Blank) -> Result<Vec<u
     let mut out = MemSink::new(alloc, Vec::new(alloc));
     let mut err = MemSink::new(alloc, Vec::new(alloc));
     let mut steps: Steps<L> = Steps::start(blank);
-    replay(alloc, words.as_slice(), &mut shelf, &mut out, &mut err, &mut steps);
+    replay(
+        alloc,
+        words.as_slice(),
+        &mut shelf,
+        &mut out,
+        &mut err,
+        &mut steps,
+    );
     Ok(out.bytes().to_vec(alloc)?)
 }
 
@@ -118,7 +125,12 @@ fn served<L: Ledger>(
 fn day(alloc: Global, lines: &[u8], journal: &[u8], fails: Fails) -> Result<Outcome, Fail> {
     let head = lines_of(alloc, HEADER.as_bytes())?;
     let disk = MemDisk::new(journal.to_vec(alloc)?, vec![in alloc; fails.disk]?);
-    let mut edge = MemEdge::new(alloc, lines_of(alloc, lines)?, 40, vec![in alloc; fails.edge]?);
+    let mut edge = MemEdge::new(
+        alloc,
+        lines_of(alloc, lines)?,
+        40,
+        vec![in alloc; fails.edge]?,
+    );
     let (end, disk) = served::<Brand>(alloc, head, disk, &mut edge, Blank::new(1));
     Ok(Outcome {
         end,
@@ -140,16 +152,30 @@ fn script_of(alloc: Global, count: u32) -> Result<(Vec<u8>, Vec<u8>), Fail> {
 fn a_day_in_rounds_puts_what_a_replay_prints(rt: HostRuntime) -> Result<(), Fail> {
     let alloc = rt.alloc();
     let (script, whole) = script_of(alloc, 500)?;
-    assert!(rt; script.len() > 30_000 && whole.len() > 60_000, "{} {}", script.len(), whole.len());
+    assert!(rt;
+        script.len() > 30_000 && whole.len() > 60_000,
+        "{} {}",
+        script.len(),
+        whole.len()
+    );
     let lived = day(alloc, &script[HEADER.len().min(script.len())..], &[], NONE)?;
-    assert!(rt; lived.end == DayEnd::Lived(LiveEnd::Stopped), "{:?}", lived.end);
+    assert!(rt;
+        lived.end == DayEnd::Lived(LiveEnd::Stopped),
+        "{:?}",
+        lived.end
+    );
     assert!(rt; lived.kept == script && lived.put == whole);
     Ok(())
 }
 
 /// How a day ends one of whose calls fails, where all is well: what it put is a beginning of what its journal's lines yield, and a day
 /// that is begun again over the journal, with the lines that are not in it, keeps them all and puts the rest.
-fn end_of(alloc: Global, script: &[u8], whole: &[u8], fails: Fails) -> Result<Option<DayEnd>, Fail> {
+fn end_of(
+    alloc: Global,
+    script: &[u8],
+    whole: &[u8],
+    fails: Fails,
+) -> Result<Option<DayEnd>, Fail> {
     let broken = day(alloc, &script[HEADER.len().min(script.len())..], &[], fails)?;
     let had = transcript(alloc, &broken.kept)?;
     let begun = broken.kept.len().max(HEADER.len()).min(script.len());
@@ -162,7 +188,9 @@ fn end_of(alloc: Global, script: &[u8], whole: &[u8], fails: Fails) -> Result<Op
 }
 
 #[test]
-fn a_day_that_was_cut_at_any_call_goes_on_where_its_journal_ends(rt: HostRuntime) -> Result<(), Fail> {
+fn a_day_that_was_cut_at_any_call_goes_on_where_its_journal_ends(
+    rt: HostRuntime,
+) -> Result<(), Fail> {
     let alloc = rt.alloc();
     let (script, whole) = script_of(alloc, 500)?;
     let mut stops = 0_u32;
@@ -173,13 +201,29 @@ fn a_day_that_was_cut_at_any_call_goes_on_where_its_journal_ends(rt: HostRuntime
             break;
         }
         if disk_is_on {
-            let end = end_of(alloc, &script, &whole, Fails { disk: call, edge: 0 })?;
+            let end = end_of(
+                alloc,
+                &script,
+                &whole,
+                Fails {
+                    disk: call,
+                    edge: 0,
+                },
+            )?;
             assert!(rt; end.is_some(), "call {call} of the disk");
             disk_is_on = end != Some(DayEnd::Lived(LiveEnd::Stopped));
             stops = stops.saturating_add(1);
         }
         if edge_is_on {
-            let end = end_of(alloc, &script, &whole, Fails { disk: 0, edge: call })?;
+            let end = end_of(
+                alloc,
+                &script,
+                &whole,
+                Fails {
+                    disk: 0,
+                    edge: call,
+                },
+            )?;
             assert!(rt; end.is_some(), "call {call} of the edge");
             edge_is_on = end != Some(DayEnd::Lived(LiveEnd::Stopped));
             stops = stops.saturating_add(1);
@@ -202,6 +246,8 @@ fn a_refused_line_is_left_out_and_a_full_symbol_ends_the_day(rt: HostRuntime) ->
         quotes.extend_from_slice(b"Q X N 1.00 1.01\n")?;
     }
     let full = day(alloc, &quotes, &[], NONE)?;
-    assert!(rt; full.end == DayEnd::Lived(LiveEnd::Halted) && full.kept.len() < HEADER.len() + 6_400);
+    assert!(rt;
+        full.end == DayEnd::Lived(LiveEnd::Halted) && full.kept.len() < HEADER.len() + 6_400
+    );
     Ok(())
 }

@@ -2,8 +2,8 @@
 use crate::progress::{ProgressShelf, shelf_of};
 use audit_core::AuditFiles;
 use audit_journal::{
-    CONFIG, DayFault, DayShelf, FEED, JournalFault, body_of, files_of_day, head_of,
-    read_journal, text_of,
+    CONFIG, DayFault, DayShelf, FEED, JournalFault, body_of, files_of_day, head_of, read_journal,
+    text_of,
 };
 use audit_telling::exit::{Exit, told};
 use io_edge::{FileShelf, MemShelf};

@@ -141,9 +141,7 @@ pub(crate) fn book<L: Ledger>(
     let name = symbol.as_bytes();
     let put = match place {
         Place::Event(event) => { put_asked::<Brand, BookAnswer, L>(rt, day, name, event, steps) }
-        Place::Time(_, time) => {
-            put_by_time::<Brand, BookAnswer, L>(rt, day, name, time, steps)
-        }
+        Place::Time(_, time) => { put_by_time::<Brand, BookAnswer, L>(rt, day, name, time, steps) }
         Place::Id(member, id) => match id_in(rt, id) {
             Ok(id) => { put_book_with::<Brand, L>(rt, day, name, member.as_bytes(), &id, steps) }
             Err(exit) => return exit,
@@ -163,9 +161,7 @@ pub(crate) fn order<L: Ledger>(
     let name = symbol.as_bytes();
     let put = match place {
         Place::Event(event) => { put_asked::<Brand, LifeAnswer, L>(rt, day, name, event, steps) }
-        Place::Time(_, time) => {
-            put_by_time::<Brand, LifeAnswer, L>(rt, day, name, time, steps)
-        }
+        Place::Time(_, time) => { put_by_time::<Brand, LifeAnswer, L>(rt, day, name, time, steps) }
         Place::Id(member, id) => match id_in(rt, id) {
             Ok(id) => { put_order_with::<Brand, L>(rt, day, name, member.as_bytes(), &id, steps) }
             Err(exit) => return exit,

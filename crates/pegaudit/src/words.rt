@@ -160,7 +160,9 @@ pub fn program<'a>(alloc: Global) -> Result<Command<'a>, AllocError> {
     let mut program = Command::new(alloc, "pegaudit")
         .no_binary_name(true)
         .version("0.2.0")
-        .about("Audits a venue's day from its listing, or from a live venue's journal: --journal JOURNAL in the place of CONFIG LISTING")
+        .about(
+            "Audits a venue's day from its listing, or from a live venue's journal: --journal JOURNAL in the place of CONFIG LISTING",
+        )
         .subcommand_required(true)
         .arg_required_else_help(true);
     for asked in SUBCOMMANDS {

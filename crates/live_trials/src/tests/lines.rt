@@ -14,6 +14,7 @@ BEGIN 20240102-14:30:00.000
 ";
 
 const SYMBOLS: [&str; 2] = ["X", "Y"];
+
 const SENT: &str = "20240102-14:30:00";
 
 /// A member: his name, his next number, and how many of his orders were sent.
@@ -47,7 +48,9 @@ impl Member {
         let symbol = symbol(random);
         let side = 1 + random.below(2);
         let shares = 100 + 100 * random.below(5);
-        format!(in alloc; "{head}11=o{number}|55={symbol}|54={side}|60={SENT}|38={shares}|40=P|1094=2|\n")
+        format!(in alloc;
+            "{head}11=o{number}|55={symbol}|54={side}|60={SENT}|38={shares}|40=P|1094=2|\n"
+        )
     }
 
     /// A cancel of an order of his, which may be there no more, or of another symbol.
