@@ -12,6 +12,7 @@ pegaudit explain file
 pegaudit --help
 pegaudit --version
 pegday file file
+peglive file file - file --access file
 peglive file file - file
 peglive check file
 peglive --help
