@@ -150,6 +150,28 @@ pub(crate) fn audit_shelf<'a, R: Threads + Wait + Sync>(
     }
 }
 
+/// The listing of the day of a journal.
+fn listing_text<R: Threads + Wait + Sync>(
+    threads: &R,
+    rt: &HostRuntime,
+    name: &str,
+) -> Result<Vec<u8>, Exit> {
+    let mut files = day_in(threads, rt, name)?;
+    match files.pop() {
+        Some((_, listing)) => Ok(listing),
+        None => Err(Exit::NoMemory),
+    }
+}
+
+/// A part of lines as a text.
+fn lines_text(alloc: Global, lines: &[Bytes], part: Part) -> Result<Vec<u8>, AllocError> {
+    match part {
+        Part::Config => text_of(alloc, head_of(lines)),
+        Part::Feed => text_of(alloc, body_of(lines)),
+        Part::Script | Part::Listing => text_of(alloc, lines),
+    }
+}
+
 /// The text of a part of a journal.
 fn part_text<R: Threads + Wait + Sync>(
     threads: &R,
@@ -158,19 +180,10 @@ fn part_text<R: Threads + Wait + Sync>(
     part: Part,
 ) -> Result<Vec<u8>, Exit> {
     if part == Part::Listing {
-        let mut files = day_in(threads, rt, name)?;
-        return match files.pop() {
-            Some((_, listing)) => Ok(listing),
-            None => Err(Exit::NoMemory),
-        };
+        return listing_text(threads, rt, name);
     }
     let lines = lines_in(rt, name)?;
-    let lines = match part {
-        Part::Config => head_of(&lines),
-        Part::Feed => body_of(&lines),
-        Part::Script | Part::Listing => lines.as_slice(),
-    };
-    match text_of(rt.alloc(), lines) {
+    match lines_text(rt.alloc(), &lines, part) {
         Ok(text) => Ok(text),
         Err(_) => Err(Exit::NoMemory),
     }

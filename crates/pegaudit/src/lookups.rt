@@ -1,4 +1,6 @@
 //! The book and an order's life as a command line asks for them: at an event, at a time of day, or by who named an order how.
+ghost use Rattle.std.specs.Prelude.{◌≡◌};
+
 use crate::day::Day;
 use crate::tables::put_table;
 use audit_book::BookAnswer;

@@ -115,48 +115,41 @@ fn answer_of_day<R: Threads + Sync, L: Ledger>(
     question: DayQuestion<'_>,
     day: Day<'_>,
     feeds: &[&str],
-    blank: Blank,
-) -> Exit
-    requires { (blank.name ≡ L.name) × (blank.parts ≡ L.parts) × (L.parts ≡ 1) }
-{
-    let mut steps: Steps<L> = Steps::start(blank);
+    steps: &mut Steps<L>,
+) -> Exit {
     let mut day = day;
     match question {
-        DayQuestion::Verify => verify_all(threads, rt, &mut day, feeds, &mut steps),
-        DayQuestion::Trades => put_trades(rt, &mut day, &mut steps),
-        DayQuestion::Summary => put_summary(rt, &mut day, &mut steps),
-        DayQuestion::Chart(symbol) => draw(rt, &mut day, symbol, &mut steps),
-        DayQuestion::Book(symbol, place) => book(rt, &mut day, symbol, place, &mut steps),
-        DayQuestion::Order(symbol, place) => order(rt, &mut day, symbol, place, &mut steps),
+        DayQuestion::Verify => verify_all(threads, rt, &mut day, feeds, steps),
+        DayQuestion::Trades => put_trades(rt, &mut day, steps),
+        DayQuestion::Summary => put_summary(rt, &mut day, steps),
+        DayQuestion::Chart(symbol) => draw(rt, &mut day, symbol, steps),
+        DayQuestion::Book(symbol, place) => book(rt, &mut day, symbol, place, steps),
+        DayQuestion::Order(symbol, place) => order(rt, &mut day, symbol, place, steps),
     }
 }
 
-/// Explains a script.
-fn explain_script<L: Ledger>(rt: &HostRuntime, name: &str, blank: Blank) -> Exit
-    requires { (blank.name ≡ L.name) × (blank.parts ≡ L.parts) × (L.parts ≡ 1) }
-{
-    let mut steps: Steps<L> = Steps::start(blank);
-    put_explained(rt, name, &mut steps)
-}
-
 /// Answers a question.
-fn run<R: Threads + Wait + Sync>(
+fn run<R: Threads + Wait + Sync, L: Ledger>(
     threads: &R,
     rt: &HostRuntime,
     question: Question<'_>,
     feeds: &[&str],
     journal: Option<&str>,
-) -> Exit {
+    blank: Blank,
+) -> Exit
+    requires { (blank.name ≡ L.name) × (blank.parts ≡ L.parts) × (L.parts ≡ 1) }
+{
+    let mut steps: Steps<L> = Steps::start(blank);
     match question {
         Question::Day(files, question) => match audit_shelf(threads, rt, journal) {
             Ok(shelf) => {
                 let day = Day { files, shelf };
-                answer_of_day::<R, Brand>(threads, rt, question, day, feeds, Blank::new(1))
+                answer_of_day(threads, rt, question, day, feeds, &mut steps)
             }
             Err(exit) => exit,
         },
         Question::Journal(name, part) => put_journal(threads, rt, name, part),
-        Question::Explain(name) => explain_script::<Brand>(rt, name, Blank::new(1)),
+        Question::Explain(name) => put_explained(rt, name, &mut steps),
     }
 }
 
@@ -185,7 +178,7 @@ fn answer<R: Threads + Wait + Sync>(
     match question_of(&matches) {
         Some(question) => {
             let feeds = feeds_of(&matches).unwrap_or(&[]);
-            run(threads, rt, question, feeds, journal)
+            run::<R, Brand>(threads, rt, question, feeds, journal, Blank::new(1))
         }
         None => tell_bad_event(rt),
     }
