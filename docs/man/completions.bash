@@ -6,8 +6,9 @@ _lubweqad_forms='pegaudit verify file file file *
 pegaudit trades file file
 pegaudit summary file file
 pegaudit chart file file SYMBOL
-pegaudit book file file SYMBOL -
-pegaudit order file file SYMBOL -
+pegaudit book file file SYMBOL - *
+pegaudit order file file SYMBOL - *
+pegaudit journal file -
 pegaudit explain file
 pegaudit --help
 pegaudit --version
