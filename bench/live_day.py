@@ -90,10 +90,10 @@ def asked_ids(lines):
 
 
 class Venue:
-    """A peglive that runs over a config and a journal in a folder, with an operator's connection."""
+    """A peglive that runs over a config and a journal in a folder, with an operator's connection. A market may say nothing for `stale` seconds, or for ever."""
 
-    def __init__(self, config, journal, port, desk, program=TOP / "bin/peglive", words=()):
-        self.words = [str(program), *words, str(config), str(journal), f"127.0.0.1:{port}", str(desk)]
+    def __init__(self, config, journal, port, desk, program=TOP / "bin/peglive", words=(), stale=0):
+        self.words = [str(program), "--stale", str(stale), *words, str(config), str(journal), f"127.0.0.1:{port}", str(desk)]
         self.port, self.desk_path, self.process, self.desk = port, str(desk), None, None
 
     def start(self, log=subprocess.DEVNULL):

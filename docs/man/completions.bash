@@ -8,12 +8,16 @@ pegaudit summary file file
 pegaudit chart file file SYMBOL
 pegaudit book file file SYMBOL - *
 pegaudit order file file SYMBOL - *
+pegaudit report file file file *
 pegaudit journal file -
 pegaudit explain file
 pegaudit --help
 pegaudit --version
 pegday file file
-peglive file file - file --access file
+pegfeed file - - - file SYMBOL *
+pegfeed --help
+pegfeed --version
+peglive file file - file --access file --stale -
 peglive file file - file
 peglive check file
 peglive --help
@@ -22,7 +26,11 @@ pegmarket file - file
 pegreplay file
 pegreplay load - -
 pegserve file - - file - - MEMBER *
-pegvenue file file *'
+pegvenue file file *
+pegwatch file file - --stale - --public
+pegwatch file
+pegwatch --help
+pegwatch --version'
 
 _lubweqad() {
   local form word at config fits kinds so_far=("${COMP_WORDS[@]:0:COMP_CWORD}") this=${COMP_WORDS[COMP_CWORD]}
@@ -52,4 +60,4 @@ _lubweqad() {
     esac
   done <<<"$_lubweqad_forms"
 }
-complete -o filenames -F _lubweqad pegaudit pegday peglive pegmarket pegreplay pegserve pegvenue
+complete -o filenames -F _lubweqad pegaudit pegday pegfeed peglive pegmarket pegreplay pegserve pegvenue pegwatch

@@ -2,7 +2,7 @@
 
     ./demo              starts a live venue on a free port of 127.0.0.1, has three members trade, kills the venue and starts it again, and checks the day
 
-What it shows is checked: each report is what the rules make of the orders, and at the end other programs recompute the day from the venue's journal.
+What it shows is checked: each report is what the rules make of the orders, and at the end another program recomputes the day from the venue's journal.
 It ends with 0 only where all of that held. It uses proved programs where bin/ has them, else those that ./try compiles; PROGRAMS names another folder.
 Files of the day are left in bin/demo/. At a terminal it has colours, unless NO_COLOR is set, and goes at a reader's pace.
 """
@@ -159,9 +159,9 @@ def check(market, programs, folder):
     if fills != 2 * len(trades):
         raise Failed(f"the members were told of {fills} fills, and the day has {len(trades)} trades")
     screen.put("")
-    screen.put(f"The day is over. Its journal has {len(day.lines)} lines, and other programs recompute it from them:")
-    screen.put(f"  pegreplay   each of the {connections} connections was sent a run of the messages that it prints, {frames} in all, byte for byte", "checked")
-    screen.put(f"  pegaudit    {said.rpartition(': ')[2]}: its {events} events are what members and markets asked, and all its reports what the rules make of them", "checked")
+    screen.put(f"The day is over. Its journal has {len(day.lines)} lines, and pegaudit recomputes it from them:")
+    screen.put(f"  explain     each of the {connections} connections was sent a run of the messages that its member is due, {frames} in all, byte for byte", "checked")
+    screen.put(f"  verify      {said.rpartition(': ')[2]}: its {events} events are what members and markets asked, and all its reports what the rules make of them", "checked")
     screen.put(f"  members     each of its {reports} reports came to its member once, and no other: nothing that was answered is lost", "checked")
     screen.put("")
     first = trades[:3]

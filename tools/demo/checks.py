@@ -1,10 +1,10 @@
-"""What is looked at when the day is over: its journal, by programs that had no part in it."""
+"""What is looked at when the day is over: its journal, by a program that had no part in it."""
 import csv
 import re
 import shutil
 import subprocess
 
-from live_day import transcript_by_member, wrong_run
+from live_day import unescaped, wrong_run
 from words import Failed
 
 
@@ -13,7 +13,7 @@ class Day:
 
     def __init__(self, folder, programs, members):
         self.folder, self.programs, self.members = folder, programs, members
-        self.lines = self.run("pegaudit", "journal", "day.journal").encode().splitlines()
+        self.lines = self.run("pegaudit", "journal", "day.journal", to="day.pegv").encode().splitlines()
 
     def run(self, program, *words, to=None):
         """What a program puts, or the file that it puts into."""
@@ -24,9 +24,18 @@ class Day:
             raise Failed(f"{program} {' '.join(words)} ended with {ran.returncode}: {told}{ran.stderr.decode(errors='replace')}")
         return (self.folder / (to or "out")).read_text(errors="replace")
 
+    def frames(self):
+        """Of each member the frames that he is due, in order, as pegaudit explains the lines of the day."""
+        frames = {}
+        for line in self.run("pegaudit", "explain", "day.pegv").splitlines():
+            if line.startswith("  > "):
+                name, text = line[4:].split(" ", 1)
+                frames.setdefault(name, []).append(unescaped(text.encode()))
+        return frames
+
     def check_frames(self):
-        """Each connection was sent a run of what pegreplay prints for its member. How many frames and connections."""
-        frames = transcript_by_member(self.lines, self.folder, self.programs["pegreplay"])
+        """Each connection was sent a run of what its member is due by the journal. How many frames and connections."""
+        frames = self.frames()
         count = connections = 0
         for member in self.members:
             wrong = wrong_run(member.runs, frames.get(member.name, []))
@@ -64,7 +73,6 @@ class Day:
         """Leaves the day's files in a folder in the place of those of the last day, with a page to open, whose path is returned."""
         shutil.rmtree(to, ignore_errors=True)
         to.mkdir(parents=True, exist_ok=True)
-        self.run("pegaudit", "journal", "day.journal", to="day.pegv")
         if re.search(r"^ +report\b", self.run("pegaudit", "--help"), re.M):
             name, words = "day.html", ("report", "--journal", "day.journal")
         else:

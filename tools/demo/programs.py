@@ -8,7 +8,7 @@ from pathlib import Path
 import crates
 
 TOP = crates.TOP
-AFTERWARDS = ("pegreplay", "pegaudit")
+AFTERWARDS = ("pegaudit",)
 # What a compilation takes at most, in KB.
 MEMORY = 2_500_000
 
@@ -65,12 +65,12 @@ class Programs(dict):
         if "pegaudit" in self:
             return
         if self.meanwhile and self.meanwhile.poll() is None:
-            screen.put("The programs that check the day are still being compiled.", "note")
+            screen.put("The program that checks the day is still being compiled.", "note")
         if self.meanwhile:
             self.meanwhile.wait()
         # Kept ones are there at once; where one is not, this compiles it or says why not.
         if subprocess.run([TOP / "tools/unproved", *AFTERWARDS], stdout=subprocess.DEVNULL, check=False).returncode:
-            raise Unusable("the programs that check the day could not be compiled")
+            raise Unusable("the program that checks the day could not be compiled")
         self.take(TOP / "bin/unproved", AFTERWARDS)
 
     def stop(self):

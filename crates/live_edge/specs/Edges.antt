@@ -2,7 +2,8 @@
 use Rattle.std.specs.Prelude.{◌≡◌, ℕ, List}
 use Rattle.ports.specs.declared.table.Table.{Table}
 use Rattle.live_edge.specs.Stories.{Story}
-use Rattle.live_edge.specs.Joins.{Joined, all_put, frames_of}
+use Rattle.live_edge.specs.Joins.{Joined, all_put}
+use Rattle.live_words.specs.Frames.{frames_of}
 
 -- all lines that it brought, all lines of transcripts that were put, how often a call has failed, the rounds that are left, and the
 -- names of the members

@@ -1,9 +1,6 @@
 pub mod Stories
 pub mod Steps
-pub mod Lines
-pub mod Naming
-pub mod Access
-pub mod Words
 pub mod Rounds
 pub mod Joins
 pub mod Edges
+pub mod Slow

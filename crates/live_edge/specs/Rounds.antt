@@ -7,7 +7,7 @@ use Rattle.ports.specs.declared.answers.Naming.{Naming}
 use Rattle.ports.specs.declared.answers.Naming.TheVariants as naming
 use Rattle.live_edge.specs.Stories.{Story}
 use Rattle.live_edge.specs.Joins.{all_put}
-use Rattle.live_edge.specs.Lines.{moment_line}
+use Rattle.live_words.specs.Lines.{moment_line}
 
 -- no line was brought, and none put, and no byte was put to a member
 pub record Keeps (old new : Story) : Type 0 where

@@ -2,32 +2,22 @@
 ghost use Rattle.std.specs.Prelude.{cond, ◌==◌, ◌≡◌, ◌≢◌, ◌≤◌, ◌<◌, ◌+◌, ◌++◌, ◌∷◌, [], ℕ, false, length, Ok, is_ok, IfOk, IfSome, OnOk, OnErr, All};
 ghost use Rattle.venue_words.specs.Causes.{HasCause, Rose};
 ghost use Rattle.ports.specs.Slots.{kept_at};
-ghost use Rattle.live_edge.specs.Naming.{IsClaim};
-ghost use Rattle.live_edge.specs.Access.{IsAllowed};
+ghost use Rattle.live_words.specs.Naming.{IsClaim};
+ghost use Rattle.live_words.specs.Access.{IsAllowed};
 ghost use Rattle.live_edge.specs.Stories.{beginning};
 ghost use Rattle.live_edge.specs.Joins.{Joined, all_put};
 ghost use Rattle.live_edge.specs.Rounds.{Keeps, IsOfPieces, IsNamedOfPieces};
 
-use crate::access::Access;
 use crate::outside::Outside;
-use crate::setup::Setup;
 use crate::story::{Step, Story};
 use io_edge::Failed;
+use live_words::{Access, Cause, Event, Setup};
 use ports::{Heard, Naming, Opening, Putting, State, Table};
 use std::alloc::{AllocError, Global};
 use venue_words::{Bytes, NoMemory};
 
 /// How long a connection may go without a name, in milliseconds.
 const NAMING_MILLISECONDS: u64 = 30_000;
-
-/// A member is slow while more bytes than these wait for him.
-const SLOW_BYTES: usize = 4_194_304;
-
-/// How long a member may be slow, in milliseconds.
-const SLOW_MILLISECONDS: u64 = 30_000;
-
-/// While more bytes than these wait for a member he is not read.
-const READING_BYTES: usize = 65_536;
 
 /// The most connections that are let in at once.
 const MOST_AT_ONCE: usize = 256;
@@ -111,16 +101,25 @@ impl<O: Outside> Connections<O> {
         }
     }
 
-    /// Notes that a connection of this state ended: a member's owes a line.
-    fn note_end(&mut self, state: State)
+    /// Notes that the connection of a port of this state ended, and tells the log of it: a member's owes a line.
+    pub(crate) fn note_end(&mut self, port: usize, state: State, cause: Cause)
         ensures keeps { Keeps self.old.story.tale self.new.story.tale }
         ensures joined { Joined self.old.story.tale.past self.old.table (O.came self.old.outside) (O.went self.old.outside) → Joined self.new.story.tale.past self.new.table (O.came self.new.outside) (O.went self.new.outside) }
         ensures later { O.faults self.old.outside + self.old.faults ≤ O.faults self.new.outside + self.new.faults }
     {
-        if let State::Named { member } = state {
-            if member < self.owed.len() {
-                self.owed[member] = true;
+        match state {
+            State::Named { member } => {
+                if member < self.owed.len() {
+                    self.owed[member] = true;
+                }
+                self.outside.log(Event::Ended {
+                    port,
+                    member,
+                    cause,
+                });
             }
+            State::Unnamed => self.outside.log(Event::Refused { port, cause }),
+            State::Free => {}
         }
     }
 
@@ -159,7 +158,7 @@ impl<O: Outside> Connections<O> {
     {
         match heard {
             Heard::Kept => self.note_fresh(port, true),
-            Heard::Over(_) => self.note_end(state),
+            Heard::Over(_) => self.note_end(port, state, Cause::Closed),
             _ => {}
         }
     }
@@ -170,10 +169,8 @@ impl<O: Outside> Connections<O> {
         ensures joined { Joined self.old.story.tale.past self.old.table (O.came self.old.outside) (O.went self.old.outside) → Joined self.new.story.tale.past self.new.table (O.came self.new.outside) (O.went self.new.outside) }
         ensures later { O.faults self.old.outside + self.old.faults ≤ O.faults self.new.outside + self.new.faults }
     {
-        if let Putting::Over { .. } = putting {
-            self.note_end(State::Named { member });
-            self.outside
-                .log(b"a member's connection is ended: too much waits for it");
+        if let Putting::Over { port } = putting {
+            self.note_end(port, State::Named { member }, Cause::Overflow);
         }
     }
 
@@ -194,7 +191,7 @@ impl<O: Outside> Connections<O> {
     }
 
     /// Ends the connection of a port.
-    pub(crate) fn end(&mut self, port: usize)
+    pub(crate) fn end(&mut self, port: usize, cause: Cause)
         ensures keeps { Keeps self.old.story.tale self.new.story.tale }
         ensures joined { Joined self.old.story.tale.past self.old.table (O.came self.old.outside) (O.went self.old.outside) → Joined self.new.story.tale.past self.new.table (O.came self.new.outside) (O.went self.new.outside) }
         ensures later { O.faults self.old.outside + self.old.faults ≤ O.faults self.new.outside + self.new.faults }
@@ -202,7 +199,7 @@ impl<O: Outside> Connections<O> {
         let state = self.table.state(port);
         self.table.end(&mut self.outside, port);
         self.story = self.story.then(&Step::Ended(port));
-        self.note_end(state);
+        self.note_end(port, state, cause);
         self.note_fresh(port, false);
     }
 
@@ -216,16 +213,6 @@ impl<O: Outside> Connections<O> {
             Ok(word) => Ok(word),
             Err(_) => Err(self.fail()),
         }
-    }
-
-    /// Ends a connection that nobody is, and tells the log why.
-    pub(crate) fn dismiss(&mut self, port: usize, why: &str)
-        ensures keeps { Keeps self.old.story.tale self.new.story.tale }
-        ensures joined { Joined self.old.story.tale.past self.old.table (O.came self.old.outside) (O.went self.old.outside) → Joined self.new.story.tale.past self.new.table (O.came self.new.outside) (O.went self.new.outside) }
-        ensures later { O.faults self.old.outside + self.old.faults ≤ O.faults self.new.outside + self.new.faults }
-    {
-        self.end(port);
-        self.outside.log(why.as_bytes());
     }
 
     /// How many connections have no name.
@@ -247,10 +234,7 @@ impl<O: Outside> Connections<O> {
     {
         if full || self.count_unnamed() > self.unnamed {
             if let Some(port) = self.table.oldest_unnamed() {
-                self.dismiss(
-                    port,
-                    "a connection without a name is ended: there are too many",
-                );
+                self.end(port, Cause::Crowd);
             }
         }
     }
@@ -295,49 +279,9 @@ impl<O: Outside> Connections<O> {
         for _ in 0..self.ports {
             match self.table.oldest_unnamed() {
                 Some(port) if now.saturating_sub(self.table.since(port)) > NAMING_MILLISECONDS => {
-                    self.dismiss(port, "a connection is ended: it had no name for 30 seconds");
+                    self.end(port, Cause::NoName);
                 }
                 _ => return,
-            }
-        }
-    }
-
-    /// How many bytes wait for the member of a port.
-    fn backlog(&self, port: usize) -> usize {
-        match self.table.state(port) {
-            State::Named { member } => self.table.waiting(member),
-            _ => 0,
-        }
-    }
-
-    /// Notes whether the member of a port is slow, and says whether he was so for too long.
-    fn is_late(&mut self, port: usize, now: u64) -> bool
-        ensures { self.new ≡ record self.old { slow = self.new.slow } }
-    {
-        if port >= self.slow.len() {
-            return false;
-        }
-        if self.backlog(port) <= SLOW_BYTES {
-            self.slow[port] = None;
-            return false;
-        }
-        let since = self.slow[port].unwrap_or(now);
-        self.slow[port] = Some(since);
-        now.saturating_sub(since) > SLOW_MILLISECONDS
-    }
-
-    /// Ends the connections of members who were slow for too long.
-    pub(crate) fn end_slow(&mut self, now: u64)
-        ensures keeps { Keeps self.old.story.tale self.new.story.tale }
-        ensures joined { Joined self.old.story.tale.past self.old.table (O.came self.old.outside) (O.went self.old.outside) → Joined self.new.story.tale.past self.new.table (O.came self.new.outside) (O.went self.new.outside) }
-        ensures later { O.faults self.old.outside + self.old.faults ≤ O.faults self.new.outside + self.new.faults }
-    {
-        for port in 0..self.ports {
-            if self.is_late(port, now) {
-                self.dismiss(
-                    port,
-                    "a member's connection is ended: over 4 MiB waited for it for 30 seconds",
-                );
             }
         }
     }
@@ -358,7 +302,7 @@ impl<O: Outside> Connections<O> {
             }
             Err(_) => {
                 self.story = self.story.then(&Step::Ended(port));
-                self.note_end(state);
+                self.note_end(port, state, Cause::Closed);
                 Err(self.fail())
             }
         }
@@ -408,43 +352,6 @@ impl<O: Outside> Connections<O> {
                 Ok(())
             }
             Err(_) => Err(self.fail()),
-        }
-    }
-
-    /// Gives a port what waits for its member, as far as it takes it.
-    fn flush(&mut self, port: usize)
-        ensures keeps { Keeps self.old.story.tale self.new.story.tale }
-        ensures joined { Joined self.old.story.tale.past self.old.table (O.came self.old.outside) (O.went self.old.outside) → Joined self.new.story.tale.past self.new.table (O.came self.new.outside) (O.went self.new.outside) }
-        ensures later { O.faults self.old.outside + self.old.faults ≤ O.faults self.new.outside + self.new.faults }
-    {
-        let state = self.table.state(port);
-        if !self.table.flush(&mut self.outside, port) {
-            self.story = self.story.then(&Step::Ended(port));
-            self.note_end(state);
-        }
-    }
-
-    /// Gives a port what waits for its member, and notes whether he may be read again.
-    fn relieve(&mut self, port: usize)
-        ensures keeps { Keeps self.old.story.tale self.new.story.tale }
-        ensures joined { Joined self.old.story.tale.past self.old.table (O.came self.old.outside) (O.went self.old.outside) → Joined self.new.story.tale.past self.new.table (O.came self.new.outside) (O.went self.new.outside) }
-        ensures later { O.faults self.old.outside + self.old.faults ≤ O.faults self.new.outside + self.new.faults }
-    {
-        let before = self.backlog(port);
-        self.flush(port);
-        if before > READING_BYTES && self.backlog(port) <= READING_BYTES {
-            self.eased = true;
-        }
-    }
-
-    /// Gives each port what waits for its member, as far as it takes it.
-    pub(crate) fn flush_all(&mut self)
-        ensures keeps { Keeps self.old.story.tale self.new.story.tale }
-        ensures joined { Joined self.old.story.tale.past self.old.table (O.came self.old.outside) (O.went self.old.outside) → Joined self.new.story.tale.past self.new.table (O.came self.new.outside) (O.went self.new.outside) }
-        ensures later { O.faults self.old.outside + self.old.faults ≤ O.faults self.new.outside + self.new.faults }
-    {
-        for port in 0..self.ports {
-            self.relieve(port);
         }
     }
 }

@@ -4,24 +4,17 @@ ghost use Rattle.day_journal.specs.Log.{IsShortLine};
 ghost use Rattle.ports.specs.Cuts.{IsPiece};
 ghost use Rattle.venue_words.specs.Causes.{HasCause};
 ghost use Rattle.std.specs.Prelude.{◌≤ℤ◌};
-ghost use Rattle.ports.specs.Slots.{kept_at};
-ghost use Rattle.live_edge.specs.Naming.{IsClaim};
-ghost use Rattle.live_edge.specs.Access.{IsAllowed};
 ghost use Rattle.live_edge.specs.Joins.{Joined, all_put};
 ghost use Rattle.live_edge.specs.Rounds.{Keeps, IsInOrder, IsMarked};
 
-use crate::access::Access;
-use crate::batch::{push_all, push_copy, push_moment_line, push_open, push_pieces};
 use crate::connections::Connections;
-use crate::naming::{Claim, claimed_by};
 use crate::outside::Outside;
-use crate::setup::Setup;
-use crate::status::status;
+use crate::pieces::push_pieces;
 use crate::turns::Turns;
-use crate::words::{Word, read_word};
 use io_edge::{Clock, Failed};
 use live_core::Going;
-use ports::{Heard, Naming};
+use live_words::{Access, Market, Setup, push_all, push_moment_line, push_open};
+use ports::Heard;
 use venue_words::Bytes;
 
 /// The most bytes of one read.
@@ -32,9 +25,6 @@ const MAX_LINES: usize = 8_192;
 
 /// A batch takes no further port once its lines have so many bytes.
 const MAX_BYTES: usize = 1_048_576;
-
-/// The most words of operators in a round.
-const MAX_WORDS: usize = 64;
 
 /// The longest wait, in milliseconds.
 const MAX_WAIT: i64 = 200;
@@ -67,10 +57,17 @@ pub(crate) struct Desk<O: Outside, C: Clock> {
     /// How many rounds are left.
     pub(crate) left: u64,
     pub(crate) rounds: u64,
+    /// The lines that were brought, and their bytes.
     pub(crate) lines: u64,
+    pub(crate) bytes: u64,
+    /// Whether each symbol is halted.
+    pub(crate) halted: Vec<bool>,
+    pub(crate) markets: Vec<Market>,
+    /// A market of which nothing comes for so many milliseconds has no quotes; 0 is no limit.
+    pub(crate) stale: u64,
 }
 
-/// The port behind another, and the first one behind the last.
+/// The port after another, and the first one after the last.
 fn port_after(port: usize, ports: usize) -> usize {
     if port < ports.saturating_sub(1) {
         port + 1
@@ -80,7 +77,7 @@ fn port_after(port: usize, ports: usize) -> usize {
 }
 
 /// A moment of the clock as the table counts it.
-fn since(now: i64) -> u64 {
+pub(crate) fn since(now: i64) -> u64 {
     u64::try_from(now).unwrap_or(0)
 }
 
@@ -99,7 +96,11 @@ impl<O: Outside, C: Clock> Desk<O, C> {
     fn wait_time(&mut self) -> u64
         ensures { self.new ≡ record self.old { clock = self.new.clock } }
     {
-        if self.busy || self.connections.eased || self.connections.owed.contains(&true) {
+        if self.busy
+            || self.stop
+            || self.connections.eased
+            || self.connections.owed.contains(&true)
+        {
             return 0;
         }
         if !self.has_member() {
@@ -146,187 +147,6 @@ impl<O: Outside, C: Clock> Desk<O, C> {
                 let pushed = push_open(self.connections.alloc, &self.setup, member, lines);
                 self.connections.kept(pushed)?;
                 self.connections.settle(member);
-            }
-        }
-        Ok(())
-    }
-
-    /// Notes that a new connection took a member's name from one that had it.
-    fn note_turn(&mut self, member: usize)
-        ensures keeps { Keeps self.old.connections.story.tale self.new.connections.story.tale }
-        ensures joined { Joined self.old.connections.story.tale.past self.old.connections.table (O.came self.old.connections.outside) (O.went self.old.connections.outside) → Joined self.new.connections.story.tale.past self.new.connections.table (O.came self.new.connections.outside) (O.went self.new.connections.outside) }
-        ensures left { self.new.left ≡ self.old.left }
-        ensures setup { self.new.setup ≡ self.old.setup }
-        ensures last { self.new.last ≡ self.old.last }
-        ensures later { O.faults self.old.connections.outside + self.old.connections.faults ≤ O.faults self.new.connections.outside + self.new.connections.faults }
-    {
-        if member < self.turns.len() {
-            self.turns[member].note(self.now);
-        }
-        self.connections
-            .outside
-            .log(b"a member's connection is ended: a new one has his name");
-    }
-
-    /// Whether a new connection may have a member's name now.
-    fn may_come(&self, member: usize) -> bool {
-        match self.turns.get(member) {
-            Some(turns) => {
-                turns.may_come(self.now) || self.connections.table.port_of(member).is_none()
-            }
-            None => true,
-        }
-    }
-
-    /// Names a port's connection as the member's whose Logon it begins with: his old connection ends, and all that came of the new
-    /// one is handed on behind an `O` line.
-    fn name(
-        &mut self,
-        port: usize,
-        member: usize,
-        lines: &mut Vec<Bytes>,
-        body: &mut Vec<Bytes>,
-    ) -> Result<(), Failed>
-        requires claim { IsClaim (kept_at self.old.connections.table port) self.old.setup.members member }
-        requires allowed { IsAllowed self.old.access member (O.origin self.old.connections.outside port) }
-        requires lines { All IsShortLine lines.old.items }
-        requires body { All IsShortLine body.old.items }
-        ensures lines { OnOk result (All IsShortLine lines.new.items) }
-        ensures body { OnOk result (All IsShortLine body.new.items) }
-        ensures keeps { Keeps self.old.connections.story.tale self.new.connections.story.tale }
-        ensures joined { Joined self.old.connections.story.tale.past self.old.connections.table (O.came self.old.connections.outside) (O.went self.old.connections.outside) → Joined self.new.connections.story.tale.past self.new.connections.table (O.came self.new.connections.outside) (O.went self.new.connections.outside) }
-        ensures left { self.new.left ≡ self.old.left }
-        ensures setup { self.new.setup ≡ self.old.setup }
-        ensures last { self.new.last ≡ self.old.last }
-        ensures cause { HasCause (O.faults self.old.connections.outside + self.old.connections.faults) (O.faults self.new.connections.outside + self.new.connections.faults) result }
-    {
-        if let Naming::Named { old, pieces } = self
-            .connections
-            .name(&self.setup, &self.access, port, member)?
-        {
-            let alloc = self.connections.alloc;
-            if old.is_some() {
-                self.note_turn(member);
-                let pushed = push_open(alloc, &self.setup, member, lines);
-                self.connections.kept(pushed)?;
-            }
-            let pushed = push_open(alloc, &self.setup, member, lines);
-            self.connections.kept(pushed)?;
-            let pushed = push_pieces(alloc, &self.setup, member, &pieces, body);
-            self.connections.kept(pushed)?;
-            if member < self.named.len() {
-                self.named[member] = self.left;
-            }
-        }
-        Ok(())
-    }
-
-    /// Names a port's connection as the member's whose Logon it begins with, where he may log on from there, and ends it where not.
-    fn welcome(
-        &mut self,
-        port: usize,
-        member: usize,
-        lines: &mut Vec<Bytes>,
-        body: &mut Vec<Bytes>,
-    ) -> Result<(), Failed>
-        requires claim { IsClaim (kept_at self.old.connections.table port) self.old.setup.members member }
-        requires lines { All IsShortLine lines.old.items }
-        requires body { All IsShortLine body.old.items }
-        ensures lines { OnOk result (All IsShortLine lines.new.items) }
-        ensures body { OnOk result (All IsShortLine body.new.items) }
-        ensures keeps { Keeps self.old.connections.story.tale self.new.connections.story.tale }
-        ensures joined { Joined self.old.connections.story.tale.past self.old.connections.table (O.came self.old.connections.outside) (O.went self.old.connections.outside) → Joined self.new.connections.story.tale.past self.new.connections.table (O.came self.new.connections.outside) (O.went self.new.connections.outside) }
-        ensures left { self.new.left ≡ self.old.left }
-        ensures setup { self.new.setup ≡ self.old.setup }
-        ensures last { self.new.last ≡ self.old.last }
-        ensures cause { HasCause (O.faults self.old.connections.outside + self.old.connections.faults) (O.faults self.new.connections.outside + self.new.connections.faults) result }
-    {
-        let origin = self.connections.outside.origin(port);
-        if !self.access.allows(member, origin) {
-            self.connections.dismiss(
-                port,
-                "a connection is ended: its member may not log on from there",
-            );
-            return Ok(());
-        }
-        if !self.may_come(member) {
-            self.connections.dismiss(
-                port,
-                "a connection is ended: its member's name was taken ten times within a minute, and stays where it is for a minute",
-            );
-            return Ok(());
-        }
-        self.name(port, member, lines, body)?;
-        self.connections.note_fresh(port, false);
-        Ok(())
-    }
-
-    /// Whether a member's connection was named in this round.
-    fn was_named(&self, member: usize) -> bool {
-        match self.named.get(member) {
-            Some(round) => *round == self.left,
-            None => false,
-        }
-    }
-
-    /// Looks for the name of a port's connection. A member is named at most once in a round: a second connection waits.
-    fn look(
-        &mut self,
-        port: usize,
-        lines: &mut Vec<Bytes>,
-        body: &mut Vec<Bytes>,
-    ) -> Result<(), Failed>
-        requires lines { All IsShortLine lines.old.items }
-        requires body { All IsShortLine body.old.items }
-        ensures lines { OnOk result (All IsShortLine lines.new.items) }
-        ensures body { OnOk result (All IsShortLine body.new.items) }
-        ensures keeps { Keeps self.old.connections.story.tale self.new.connections.story.tale }
-        ensures joined { Joined self.old.connections.story.tale.past self.old.connections.table (O.came self.old.connections.outside) (O.went self.old.connections.outside) → Joined self.new.connections.story.tale.past self.new.connections.table (O.came self.new.connections.outside) (O.went self.new.connections.outside) }
-        ensures left { self.new.left ≡ self.old.left }
-        ensures setup { self.new.setup ≡ self.old.setup }
-        ensures last { self.new.last ≡ self.old.last }
-        ensures cause { HasCause (O.faults self.old.connections.outside + self.old.connections.faults) (O.faults self.new.connections.outside + self.new.connections.faults) result }
-    {
-        let early = self.connections.table.kept(port);
-        match claimed_by(self.connections.alloc, early, self.setup.names()) {
-            Ok(Claim::Waits) => {
-                self.connections.note_fresh(port, false);
-                Ok(())
-            }
-            Ok(Claim::Nobody) => {
-                self.connections.dismiss(
-                    port,
-                    "a connection is ended: its first frame is no Logon of a member",
-                );
-                Ok(())
-            }
-            Ok(Claim::Member { member }) => {
-                if self.was_named(member) {
-                    self.busy = true;
-                    return Ok(());
-                }
-                self.welcome(port, member, lines, body)
-            }
-            Err(_) => Err(self.connections.fail()),
-        }
-    }
-
-    /// Looks for the name of each connection of which bytes came since it was last looked for.
-    fn look_all(&mut self, lines: &mut Vec<Bytes>, body: &mut Vec<Bytes>) -> Result<(), Failed>
-        requires lines { All IsShortLine lines.old.items }
-        requires body { All IsShortLine body.old.items }
-        ensures lines { OnOk result (All IsShortLine lines.new.items) }
-        ensures body { OnOk result (All IsShortLine body.new.items) }
-        ensures keeps { Keeps self.old.connections.story.tale self.new.connections.story.tale }
-        ensures joined { Joined self.old.connections.story.tale.past self.old.connections.table (O.came self.old.connections.outside) (O.went self.old.connections.outside) → Joined self.new.connections.story.tale.past self.new.connections.table (O.came self.new.connections.outside) (O.went self.new.connections.outside) }
-        ensures left { self.new.left ≡ self.old.left }
-        ensures setup { self.new.setup ≡ self.old.setup }
-        ensures last { self.new.last ≡ self.old.last }
-        ensures cause { HasCause (O.faults self.old.connections.outside + self.old.connections.faults) (O.faults self.new.connections.outside + self.new.connections.faults) result }
-    {
-        for port in 0..self.connections.ports {
-            if self.connections.is_fresh(port) {
-                self.look(port, lines, body)?;
             }
         }
         Ok(())
@@ -391,71 +211,7 @@ impl<O: Outside, C: Clock> Desk<O, C> {
         Ok(())
     }
 
-    /// Does what an operator's line asks for, and answers it.
-    fn obey(&mut self, operator: usize, body: &mut Vec<Bytes>) -> Result<(), Failed>
-        requires body { All IsShortLine body.old.items }
-        ensures body { OnOk result (All IsShortLine body.new.items) }
-        ensures keeps { Keeps self.old.connections.story.tale self.new.connections.story.tale }
-        ensures joined { Joined self.old.connections.story.tale.past self.old.connections.table (O.came self.old.connections.outside) (O.went self.old.connections.outside) → Joined self.new.connections.story.tale.past self.new.connections.table (O.came self.new.connections.outside) (O.went self.new.connections.outside) }
-        ensures left { self.new.left ≡ self.old.left }
-        ensures setup { self.new.setup ≡ self.old.setup }
-        ensures last { self.new.last ≡ self.old.last }
-        ensures cause { HasCause (O.faults self.old.connections.outside + self.old.connections.faults) (O.faults self.new.connections.outside + self.new.connections.faults) result }
-    {
-        let word = read_word(&self.word, self.setup.config());
-        match word {
-            Word::Quote => {
-                let pushed = push_copy(self.connections.alloc, &self.word, body);
-                self.connections.kept(pushed)?;
-            }
-            Word::Stop => self.stop = true,
-            Word::Status => {
-                let made = status(self.connections.alloc, self.rounds, self.lines);
-                let text = self.connections.kept(made)?;
-                return self.answer(operator, &text);
-            }
-            _ => {}
-        }
-        self.answer(operator, word.answer().as_bytes())
-    }
-
-    /// Answers an operator.
-    fn answer(&mut self, operator: usize, text: &[u8]) -> Result<(), Failed>
-        ensures keeps { Keeps self.old.connections.story.tale self.new.connections.story.tale }
-        ensures joined { Joined self.old.connections.story.tale.past self.old.connections.table (O.came self.old.connections.outside) (O.went self.old.connections.outside) → Joined self.new.connections.story.tale.past self.new.connections.table (O.came self.new.connections.outside) (O.went self.new.connections.outside) }
-        ensures left { self.new.left ≡ self.old.left }
-        ensures setup { self.new.setup ≡ self.old.setup }
-        ensures last { self.new.last ≡ self.old.last }
-        ensures cause { HasCause (O.faults self.old.connections.outside + self.old.connections.faults) (O.faults self.new.connections.outside + self.new.connections.faults) result }
-    {
-        match self.connections.outside.answer(operator, text) {
-            Ok(()) => Ok(()),
-            Err(_) => Err(self.connections.fail()),
-        }
-    }
-
-    /// Hears what operators wrote.
-    fn hear(&mut self, body: &mut Vec<Bytes>) -> Result<(), Failed>
-        requires body { All IsShortLine body.old.items }
-        ensures body { OnOk result (All IsShortLine body.new.items) }
-        ensures keeps { Keeps self.old.connections.story.tale self.new.connections.story.tale }
-        ensures joined { Joined self.old.connections.story.tale.past self.old.connections.table (O.came self.old.connections.outside) (O.went self.old.connections.outside) → Joined self.new.connections.story.tale.past self.new.connections.table (O.came self.new.connections.outside) (O.went self.new.connections.outside) }
-        ensures left { self.new.left ≡ self.old.left }
-        ensures setup { self.new.setup ≡ self.old.setup }
-        ensures last { self.new.last ≡ self.old.last }
-        ensures cause { HasCause (O.faults self.old.connections.outside + self.old.connections.faults) (O.faults self.new.connections.outside + self.new.connections.faults) result }
-    {
-        for _ in 0..MAX_WORDS {
-            match self.connections.word(&mut self.word)? {
-                Some(operator) => self.obey(operator, body)?,
-                None => return Ok(()),
-            }
-        }
-        self.busy = true;
-        Ok(())
-    }
-
-    /// Lays the moment behind the first lines of a batch, if the batch has some lines or one is due. Time does not go back.
+    /// Lays the moment after the first lines of a batch, if the batch has some lines or one is due. Time does not go back.
     fn mark(&mut self, some: bool, lines: &mut Vec<Bytes>) -> Result<(), Failed>
         requires lines { All IsShortLine lines.old.items }
         ensures short { OnOk result (All IsShortLine lines.new.items) }
@@ -478,7 +234,17 @@ impl<O: Outside, C: Clock> Desk<O, C> {
         Ok(())
     }
 
-    /// Lays the moment and the body behind the first lines of a batch, and brings it. Time does not go back.
+    /// Counts the lines of a round.
+    fn count_lines(&mut self, lines: &[Bytes])
+        ensures { self.new ≡ record self.old { lines = self.new.lines; bytes = self.new.bytes } }
+    {
+        self.lines = self.lines.saturating_add(lines.len() as u64);
+        for line in lines {
+            self.bytes = self.bytes.saturating_add(line.as_slice().len() as u64);
+        }
+    }
+
+    /// Lays the moment and the body after the first lines of a batch, and brings it. Time does not go back.
     #[tactic(auto, using(crate::proofs::LineLaws::in_order))]
     fn bring(&mut self, lines: &mut Vec<Bytes>, body: Vec<Bytes>) -> Result<(), Failed>
         requires lines { All IsShortLine lines.old.items }
@@ -499,7 +265,7 @@ impl<O: Outside, C: Clock> Desk<O, C> {
         self.mark(some, lines)?;
         let pushed = push_all(body, lines);
         self.connections.kept(pushed)?;
-        self.lines = self.lines.saturating_add(lines.len() as u64);
+        self.count_lines(lines);
         self.connections.bring(lines);
         Ok(())
     }
@@ -545,10 +311,12 @@ impl<O: Outside, C: Clock> Desk<O, C> {
         self.look_all(lines, &mut body)?;
         self.read_all(&mut body)?;
         self.hear(&mut body)?;
+        self.end_stale(&mut body)?;
         self.bring(lines, body)
     }
 
-    /// One round, whose lines are: first `O` lines, then at most one `T` line, and then what members and operators sent.
+    /// One round, whose lines are: first `O` lines, then at most one `T` line, and then what members and operators sent. The round after
+    /// one in which an operator asked for the end is the last: so his answer goes out, and goes out after the lines are kept.
     pub(crate) fn round(&mut self, lines: &mut Vec<Bytes>) -> Result<Going, Failed>
         requires empty { lines.old.items ≡ [] }
         ensures brought { OnOk result (self.new.connections.story.tale.brought ≡ self.old.connections.story.tale.brought ++ lines.new.items) }
@@ -563,7 +331,8 @@ impl<O: Outside, C: Clock> Desk<O, C> {
         ensures cause { HasCause (O.faults self.old.connections.outside + self.old.connections.faults) (O.faults self.new.connections.outside + self.new.connections.faults) result }
     {
         let going = self.count_round();
+        let stop = self.stop;
         self.gather(lines)?;
-        Ok(if self.stop { Going::Stop } else { going })
+        Ok(if stop { Going::Stop } else { going })
     }
 }

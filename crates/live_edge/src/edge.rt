@@ -1,16 +1,17 @@
 //! The edge of a live day.
 ghost use Rattle.std.specs.Prelude.{◌≡◌, [], ℕ, IfOk};
 ghost use Rattle.venue_words.specs.Conditions.{IsConfig};
-ghost use Rattle.live_edge.specs.Joins.{IsRun, frames_of};
+ghost use Rattle.live_edge.specs.Joins.{IsRun};
+ghost use Rattle.live_words.specs.Frames.{frames_of};
 
-use crate::access::Access;
 use crate::connections::Connections;
 use crate::desk::{Desk, MAX_READ_BYTES};
 use crate::outside::Outside;
-use crate::setup::Setup;
+use crate::silence::markets_of;
 use crate::turns::Turns;
 use io_edge::{Clock, Failed};
 use live_core::{Edge, Going};
+use live_words::{Access, Setup};
 use script_text::words::script_moment;
 use std::alloc::{AllocError, Global};
 use std::marker::Model;
@@ -60,13 +61,15 @@ fn last_moment(had: &[Bytes], begin: i64) -> i64 {
 
 impl<O: Outside + Drop, C: Clock + Drop> LiveEdge<O, C> {
     /// An edge before its first round, at which members log on as the access lets them. Time begins at the moment of the config, and
-    /// goes on from the journal's last.
+    /// goes on from the journal's last. The quotes of a market of which nothing comes for `stale` milliseconds are taken away; 0 is no
+    /// limit.
     pub fn new(
         alloc: Global,
         outside: O,
         clock: C,
         config: Config,
         access: Access,
+        stale: u64,
     ) -> Result<LiveEdge<O, C>, AllocError>
         requires config { IsConfig config }
         requires fresh { (port : ℕ) → O.went outside port ≡ [] }
@@ -76,6 +79,8 @@ impl<O: Outside + Drop, C: Clock + Drop> LiveEdge<O, C> {
     {
         let begin = config.begin;
         let members = config.members.len();
+        let symbols = config.symbols.len();
+        let markets = markets_of(alloc, config.markets.len(), symbols)?;
         let connections = Connections::new(alloc, outside, members)?;
         Ok(LiveEdge {
             desk: Desk {
@@ -95,6 +100,10 @@ impl<O: Outside + Drop, C: Clock + Drop> LiveEdge<O, C> {
                 left: u64::MAX,
                 rounds: 0,
                 lines: 0,
+                bytes: 0,
+                halted: vec![in alloc; false; symbols]?,
+                markets,
+                stale,
             },
         })
     }
@@ -111,7 +120,7 @@ impl<O: Outside, C: Clock> LiveEdge<O, C> {
 }
 
 impl<O: Outside, C: Clock> Edge for LiveEdge<O, C> {
-    ghost use Rattle.live_edge.specs.Lines.{text_of_lines};
+    ghost use Rattle.live_words.specs.Lines.{text_of_lines};
 
     ghost faults = { λ e. e.faults };
 
@@ -123,6 +132,7 @@ impl<O: Outside, C: Clock> Edge for LiveEdge<O, C> {
 
     fn begin(&mut self, had: &[Bytes]) {
         self.desk.last = last_moment(had, self.desk.last);
+        self.desk.begin_markets(had);
     }
 
     fn round(&mut self, lines: &mut Vec<Bytes>) -> Result<Going, Failed> {

@@ -3,10 +3,10 @@ ghost use Rattle.std.specs.Prelude.{◌≡◌, ◌≤◌, ◌<◌, ◌+◌, ◌+
 ghost use Rattle.day_journal.specs.Log.{IsShortLine};
 ghost use Rattle.venue_words.specs.Causes.{Rose};
 
-use crate::batch::push_copy;
 use crate::story::{Step, Story};
 use io_edge::{Failed, Sink};
 use live_core::{Edge, Going};
+use live_words::push_copy;
 use std::alloc::Global;
 use std::marker::Model;
 use venue_words::{Bytes, NoMemory};

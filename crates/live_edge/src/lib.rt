@@ -2,23 +2,21 @@
 //! connections. The sockets are an `Outside`, which this crate knows by its contract alone.
 #![tactic(auto)]
 
-mod access;
-mod batch;
+mod answers;
 mod connections;
 mod desk;
 mod edge;
 mod file_edge;
-mod lines;
-mod naming;
+mod operators;
 mod outside;
-mod setup;
-mod status;
+mod pieces;
+mod silence;
+mod slow;
 mod story;
 mod transcripts;
 mod turns;
-mod words;
+mod welcome;
 
-pub use access::{Access, Network, Origin, Rule, address_of};
 pub use edge::LiveEdge;
 pub use file_edge::FileEdge;
 pub use outside::Outside;

@@ -1,10 +1,10 @@
 //! What a live venue needs of the outside.
 ghost use Rattle.std.specs.Prelude.{◌≡◌, ℕ};
 ghost use Rattle.venue_words.specs.Causes.{HasCause};
-ghost use Rattle.live_edge.specs.declared.access.Origin.{Origin};
+ghost use Rattle.live_words.specs.declared.access.Origin.{Origin};
 
-use crate::access::Origin;
 use io_edge::Failed;
+use live_words::{Event, Origin};
 use ports::Ports;
 
 /// The members' connections, the operators, and the log. No call but `wait` waits.
@@ -16,7 +16,8 @@ pub trait Outside: Ports {
     fn origin(&self, port: usize) -> Origin
         ensures { result ≡ Self.origin self.now port };
 
-    /// Waits until a port or an operator may have something to do, at most so many milliseconds. No byte of a member moves.
+    /// Sends operators what they were answered, and waits until a port or an operator may have something to do, at most so many
+    /// milliseconds. No byte of a member moves.
     fn wait(&mut self, most_milliseconds: u64) -> Result<(), Failed>
         ensures came { (q : ℕ) → Self.came self.new q ≡ Self.came self.old q }
         ensures went { (q : ℕ) → Self.went self.new q ≡ Self.went self.old q }
@@ -31,15 +32,16 @@ pub trait Outside: Ports {
         ensures up { (q : ℕ) → Self.up self.new q ≡ Self.up self.old q }
         ensures cause { HasCause (Self.faults self.old) (Self.faults self.new) result };
 
-    /// Answers an operator, by one or more lines, each with its LF. An operator who is gone is no failure.
+    /// Answers an operator, by one or more lines, each with its LF, which go out at the next `wait`: by then the lines of this round are
+    /// kept. An operator who is gone is no failure.
     fn answer(&mut self, operator: usize, text: &[u8]) -> Result<(), Failed>
         ensures came { (q : ℕ) → Self.came self.new q ≡ Self.came self.old q }
         ensures went { (q : ℕ) → Self.went self.new q ≡ Self.went self.old q }
         ensures up { (q : ℕ) → Self.up self.new q ≡ Self.up self.old q }
         ensures cause { HasCause (Self.faults self.old) (Self.faults self.new) result };
 
-    /// Tells the log of something that happened, in one line without its LF. What the log can't take is dropped.
-    fn log(&mut self, text: &[u8])
+    /// Tells the log of something that happened, in one line. What the log can't take is dropped.
+    fn log(&mut self, event: Event)
         ensures came { (q : ℕ) → Self.came self.new q ≡ Self.came self.old q }
         ensures went { (q : ℕ) → Self.went self.new q ≡ Self.went self.old q }
         ensures up { (q : ℕ) → Self.up self.new q ≡ Self.up self.old q }

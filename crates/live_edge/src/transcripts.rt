@@ -2,45 +2,16 @@
 ghost use Rattle.std.specs.Prelude.{ℕ, ◌≡◌, ◌+◌, ◌++◌, ◌∷◌, [], OnOk, OnErr, IfOk, IfErr};
 ghost use Rattle.venue_words.specs.Causes.{HasCause};
 ghost use Rattle.live_core.specs.Lines.{IsBeginning};
-ghost use Rattle.live_edge.specs.Joins.{Joined, all_put, frames_of, frame_in, frame_for};
-ghost use Rattle.live_edge.specs.Lines.{text_of_lines};
+ghost use Rattle.live_edge.specs.Joins.{Joined, all_put};
+ghost use Rattle.live_words.specs.Frames.{frames_of, frame_in, frame_for};
+ghost use Rattle.live_words.specs.Lines.{text_of_lines};
 
 use crate::connections::Connections;
 use crate::outside::Outside;
-use crate::setup::Setup;
 use crate::story::Step;
 use io_edge::Failed;
-use quote_intake::space_at;
-use script_text::{cut_line, unescape};
-use std::alloc::Global;
-use venue_words::NoMemory;
-
-/// A frame that a line of a transcript says, and the member whom it is for.
-#[derive(Drop)]
-pub(crate) struct Addressed {
-    pub(crate) member: usize,
-    pub(crate) frame: Vec<u8>,
-}
-
-/// The frame of a line, which begins with the name of its member; none where the line has none.
-pub(crate) fn frame_of(
-    alloc: Global,
-    setup: &Setup,
-    line: &[u8],
-) -> Result<Option<Addressed>, NoMemory>
-    ensures { IfOk result (λ found. (m : ℕ) → frame_in setup.now.members m line.now ≡ frame_for found m) }
-{
-    let Some(space) = space_at(line) else {
-        return Ok(None);
-    };
-    let Some(member) = setup.member(&line[..space]) else {
-        return Ok(None);
-    };
-    match unescape(alloc, &line[space + 1..])? {
-        Some(frame) => Ok(Some(Addressed { member, frame })),
-        None => Ok(None),
-    }
-}
+use live_words::{Setup, frame_of};
+use script_text::cut_line;
 
 impl<O: Outside> Connections<O> {
     /// Puts the frame of a line to its member.

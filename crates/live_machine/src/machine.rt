@@ -1,11 +1,13 @@
 //! A machine that takes the lines of a script.
-ghost use Rattle.std.specs.Prelude.{◌≡◌, []};
+ghost use Rattle.std.specs.Prelude.{◌≡◌, ◌≢◌, [], None, IfSome};
+ghost use Rattle.replay_core.specs.Stages.{Kept};
+ghost use Rattle.replay_core.specs.declared.phase.Phase.TheVariants.{Body};
 ghost use Rattle.live_machine.specs.Taking.{HasTaken, yields};
 
 use crate::taking::{fits, take};
 use live_core::{Halt, Machine};
-use replay_core::PlainFloor;
 use replay_core::phase::Phase;
+use replay_core::{PlainFloor, Player};
 use script_text::Header;
 use std::alloc::Global;
 use std::marker::Model;
@@ -57,6 +59,17 @@ impl<F: PlainFloor, L: Ledger> PhaseMachine<F, L> {
             bytes: 0,
             text: Vec::new(alloc),
             steps,
+        }
+    }
+
+    /// Who plays the lines after the header; none while the header is not whole.
+    pub fn player(&self) -> Option<&Player<F>>
+        ensures body { IfSome result (λ player. self.now.phase ≡ Body player.now) }
+        ensures head { result ≡ None → (player : Kept F) → self.now.phase ≢ Body player }
+    {
+        match &self.phase {
+            Phase::Body(player) => Some(player),
+            _ => None,
         }
     }
 }

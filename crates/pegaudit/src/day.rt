@@ -47,17 +47,18 @@ pub(crate) fn journal_in(words: &[String]) -> Option<&str> {
     }
 }
 
-/// The words with the names of the day's files in that place, where the listing has the journal's own name. What is to be verified is so by
-/// its feed too.
+/// The words with the names of the day's files in that place, where the listing has the journal's own name. What takes feeds is
+/// audited beside the journal's own too.
 pub(crate) fn words_of_day(alloc: Global, words: &[String]) -> Result<Vec<String>, AllocError> {
-    let is_verified = words.first().is_some_and(|word| word.as_str() == "verify");
+    let takes_feeds = words.first().is_some_and(|word| word.as_str() == "verify"
+        || word.as_str() == "report");
     let mut made = Vec::new(alloc);
     for (place, word) in words.iter().enumerate() {
         match place {
             1 => made.push(String::from_str(alloc, CONFIG)?)?,
             2 => {
                 made.push(String::from_str(alloc, word)?)?;
-                if is_verified {
+                if takes_feeds {
                     made.push(String::from_str(alloc, FEED)?)?;
                 }
             }

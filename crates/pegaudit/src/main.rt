@@ -17,7 +17,7 @@ ghost use Rattle.venue_words.specs.declared.limits.TheConstants.{MAX_FEEDS};
 
 use crate::day::{Day, audit_shelf, journal_in, put_journal, words_of_day};
 use crate::lookups::{book, order};
-use crate::tables::{put_summary, put_trades};
+use crate::tables::{put_report, put_summary, put_trades};
 use crate::words::{DayQuestion, Question, feeds_of, program, question_of};
 use audit_chart::draw_day;
 use audit_core::audit::audit;
@@ -123,6 +123,7 @@ fn answer_of_day<R: Threads + Sync, L: Ledger>(
         DayQuestion::Trades => put_trades(rt, &mut day, steps),
         DayQuestion::Summary => put_summary(rt, &mut day, steps),
         DayQuestion::Chart(symbol) => draw(rt, &mut day, symbol, steps),
+        DayQuestion::Report => put_report(threads, rt, day, feeds, steps),
         DayQuestion::Book(symbol, place) => book(rt, &mut day, symbol, place, steps),
         DayQuestion::Order(symbol, place) => order(rt, &mut day, symbol, place, steps),
     }

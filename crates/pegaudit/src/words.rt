@@ -18,6 +18,8 @@ pub enum DayQuestion<'a> {
     Summary,
     /// A picture of the day of the symbol with this name.
     Chart(&'a str),
+    /// The day as a page.
+    Report,
     /// The book of the symbol with this name after an event.
     Book(&'a str, Place<'a>),
     /// The life of the order of the symbol with this name that entered at an event.
@@ -90,6 +92,11 @@ const SUBCOMMANDS: &[Subcommand] = &[
         name: "order",
         about: "Verifies a listing, and puts the life of the order that entered at an event: its prices and times, its place, its trades, its end",
         words: Words::Event,
+    },
+    Subcommand {
+        name: "report",
+        about: "Verifies a listing, and puts the day as a page in HTML: the verdict, what was traded, by whom, and what became of each order",
+        words: Words::Feeds,
     },
     Subcommand {
         name: "journal",
@@ -258,7 +265,10 @@ fn event_of<'a>(command: &ArgMatches<'a>) -> Option<(&'a str, Place<'a>)> {
 
 /// The feeds that are named behind a listing.
 pub fn feeds_of<'m, 'a>(matches: &'m ArgMatches<'a>) -> Option<&'m [&'a str]> {
-    matches.subcommand_matches("verify")?.get_strs("FEED")
+    match matches.subcommand_matches("verify") {
+        Some(verify) => verify.get_strs("FEED"),
+        None => matches.subcommand_matches("report")?.get_strs("FEED"),
+    }
 }
 
 /// The part of a journal that a word names.
@@ -278,6 +288,7 @@ fn day_question<'a>(name: &str, command: &ArgMatches<'a>) -> Option<DayQuestion<
         "verify" => Some(DayQuestion::Verify),
         "trades" => Some(DayQuestion::Trades),
         "summary" => Some(DayQuestion::Summary),
+        "report" => Some(DayQuestion::Report),
         "chart" => Some(DayQuestion::Chart(command.get_str("SYMBOL")?)),
         "book" => {
             let (symbol, place) = event_of(command)?;

@@ -1,7 +1,7 @@
 //! The file of who may log on from where.
 use crate::config::tell_unread;
 use crate::exit::Exit;
-use live_edge::{Access, Network, Rule, address_of};
+use live_words::{Access, Network, Rule, address_of};
 use socket_ports::MAX_DOORS;
 use std::alloc::{AllocError, Global};
 use std::net::{IpAddr, SocketAddr};

@@ -5,12 +5,13 @@ ghost use Rattle.venue_words.specs.Conditions.{IsConfig};
 use crate::access::{Listed, is_of_this_machine, read_access};
 use crate::config::{Head, read_head};
 use crate::exit::Exit;
-use crate::words::{Day, Doors};
+use crate::words::{Day, Service};
 use day_journal::FileDisk;
 use io_edge::RealClock;
 use live_core::{DayEnd, serve_day};
-use live_edge::{Access, LiveEdge};
+use live_edge::LiveEdge;
 use live_machine::{BookMachine, PhaseMachine};
+use live_words::{Access, Names};
 use ports::Ports;
 use socket_ports::{Door, DoorFault, Sockets};
 use std::sync::ledger::{Blank, Ledger};
@@ -25,11 +26,11 @@ fn tell_door(rt: &HostRuntime, word: &str, fault: DoorFault) -> Exit {
 }
 
 /// Who may log on from where. Without a file members are let in from this machine alone.
-fn access_of(rt: &HostRuntime, doors: Doors<'_>, config: &Config) -> Result<Listed, Exit> {
-    if let Some(file) = doors.access {
-        return read_access(rt, file, config, doors.members);
+fn access_of(rt: &HostRuntime, service: Service<'_>, config: &Config) -> Result<Listed, Exit> {
+    if let Some(file) = service.access {
+        return read_access(rt, file, config, service.members);
     }
-    if !is_of_this_machine(doors.members) {
+    if !is_of_this_machine(service.members) {
         return Err(Exit::OpenDoor);
     }
     match eprintln!(rt;
@@ -75,35 +76,39 @@ fn keep_door(doors: &mut Vec<Door>, door: Door) -> Result<(), Exit> {
 /// The sockets of a day, whose doors are open.
 fn sockets_of<'a>(
     rt: &'a HostRuntime,
-    doors: Doors<'_>,
+    service: Service<'_>,
+    config: &Config,
     listed: &Listed,
 ) -> Result<Sockets<'a, HostRuntime>, Exit>
     ensures unused { IfOk result (λ sockets. (port : ℕ) → ⟦<Sockets<'a, HostRuntime> as Ports>⟧.went sockets port ≡ []) }
 {
-    let members = open_doors(rt, doors.members, listed)?;
-    let desk = match Door::at(rt, doors.desk) {
+    let members = open_doors(rt, service.members, listed)?;
+    let desk = match Door::at(rt, service.desk) {
         Ok(door) => door,
-        Err(fault) => return Err(tell_door(rt, doors.desk, fault)),
+        Err(fault) => return Err(tell_door(rt, service.desk, fault)),
     };
-    match Sockets::new(rt, rt.alloc(), members, desk) {
+    let Ok(names) = Names::of(rt.alloc(), config) else {
+        return Err(Exit::NoMemory);
+    };
+    match Sockets::new(rt, rt.alloc(), members, desk, names) {
         Ok(sockets) => Ok(sockets),
-        Err(error) => Err(tell_door(rt, doors.members, DoorFault::System(error))),
+        Err(error) => Err(tell_door(rt, service.members, DoorFault::System(error))),
     }
 }
 
 /// Runs a day over sockets, until an operator stops it or something fails.
-pub fn serve<L: Ledger>(rt: &HostRuntime, day: Day<'_>, doors: Doors<'_>, blank: Blank) -> Exit
+pub fn serve<L: Ledger>(rt: &HostRuntime, day: Day<'_>, service: Service<'_>, blank: Blank) -> Exit
     requires { (blank.name ≡ L.name) × (blank.parts ≡ L.parts) × (L.parts ≡ 1) }
 {
     let Head { config, lines } = match read_head(rt, day.config) {
         Ok(head) => head,
         Err(exit) => return exit,
     };
-    let listed = match access_of(rt, doors, &config) {
+    let listed = match access_of(rt, service, &config) {
         Ok(listed) => listed,
         Err(exit) => return exit,
     };
-    let sockets = match sockets_of(rt, doors, &listed) {
+    let sockets = match sockets_of(rt, service, &config, &listed) {
         Ok(sockets) => sockets,
         Err(exit) => return exit,
     };
@@ -113,6 +118,7 @@ pub fn serve<L: Ledger>(rt: &HostRuntime, day: Day<'_>, doors: Doors<'_>, blank:
         RealClock::new(rt),
         config,
         listed.access,
+        service.stale,
     );
     let Ok(mut edge) = made else {
         return Exit::NoMemory;

@@ -38,7 +38,7 @@ fn run<L: Ledger>(rt: &HostRuntime, question: Question<'_>, blank: Blank) -> Exi
 {
     match question {
         Question::Check(config) => check(rt, config),
-        Question::Serve(day, doors) => serve::<L>(rt, day, doors, blank),
+        Question::Serve(day, service) => serve::<L>(rt, day, service, blank),
         Question::Work(day, file) => work::<L>(rt, day, file, blank),
         Question::Unclear => Exit::BadWords,
     }

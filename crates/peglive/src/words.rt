@@ -6,7 +6,7 @@ use std::alloc::{AllocError, Global};
 #[derive(Clone, Copy, Debug)]
 pub enum Question<'a> {
     /// A day over sockets.
-    Serve(Day<'a>, Doors<'a>),
+    Serve(Day<'a>, Service<'a>),
     /// A day of the lines of this file, its output on standard output.
     Work(Day<'a>, &'a str),
     /// Whether the config in this file will do.
@@ -22,13 +22,24 @@ pub struct Day<'a> {
     pub journal: &'a str,
 }
 
-/// Where members connect, and where operators do, and the file of who may log on from where, if there is one.
+/// How a day over sockets is served.
 #[derive(Clone, Copy, Debug)]
-pub struct Doors<'a> {
+pub struct Service<'a> {
+    /// Where members connect.
     pub members: &'a str,
+    /// Where operators connect.
     pub desk: &'a str,
+    /// The file of who may log on from where.
     pub access: Option<&'a str>,
+    /// How long a market may say nothing before its quotes are taken away, in milliseconds; 0 is no limit.
+    pub stale: u64,
 }
+
+/// The longest time in which a market may say nothing, in seconds: a day.
+const MAX_STALE_SECONDS: u64 = 86_400;
+
+/// The same where nothing is said of it.
+const STALE_SECONDS: u64 = 5;
 
 /// What the words mean, for `--help`.
 const HELP: &str = "\
@@ -47,7 +58,10 @@ Without --access members are let in from this machine alone, and any program on 
 may log on as any of them. With --access FILE a member logs on as a line of FILE says:
 
   NAME FROM NETWORK                     at ADDRESS, from 10.1.0.0/16 or fd00::/8, say
-  NAME AT ADDRESS                       at this further address, where nobody else may";
+  NAME AT ADDRESS                       at this further address, where nobody else may
+
+The quotes of a market of which no line comes to the desk for SECONDS are taken away,
+5 where --stale is not given, and never with --stale 0; KEEP MARKET is such a line.";
 
 fn word<'a>(alloc: Global, name: &'static str, help: &'static str) -> Arg<'a> {
     Arg::new(alloc, name).help(help)
@@ -73,7 +87,25 @@ pub fn program<'a>(alloc: Global) -> Result<Command<'a>, AllocError> {
                 .long("access")
                 .value_name("FILE")
                 .help("Who may log on from where"),
+        )?
+        .arg(
+            Arg::new(alloc, "stale")
+                .long("stale")
+                .value_name("SECONDS")
+                .help("How long a market may say nothing"),
         )
+}
+
+/// How long a market may say nothing, in milliseconds.
+fn stale_of(word: Option<&str>) -> Option<u64> {
+    let seconds = match word {
+        Some(word) => word.parse::<u64>().ok()?,
+        None => STALE_SECONDS,
+    };
+    if seconds > MAX_STALE_SECONDS {
+        return None;
+    }
+    Some(seconds * 1_000)
 }
 
 /// What is asked.
@@ -90,15 +122,18 @@ pub fn question_of<'a>(matches: &ArgMatches<'a>) -> Question<'a> {
             Question::Work(Day { config, journal }, file)
         }
         (Some(config), Some(journal), Some(members), Some(desk)) => {
-            let access = matches.get_str("access");
-            Question::Serve(
-                Day { config, journal },
-                Doors {
-                    members,
-                    desk,
-                    access,
-                },
-            )
+            match stale_of(matches.get_str("stale")) {
+                Some(stale) => Question::Serve(
+                    Day { config, journal },
+                    Service {
+                        members,
+                        desk,
+                        access: matches.get_str("access"),
+                        stale,
+                    },
+                ),
+                None => Question::Unclear,
+            }
         }
         _ => Question::Unclear,
     }

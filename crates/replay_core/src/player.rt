@@ -1,9 +1,11 @@
 //! The lines behind the header of a script, worked one after the other.
-ghost use Rattle.std.specs.Prelude.{List, ◌≡◌, ◌≤◌, ◌+◌, ◌++◌, [], Some, Err, IfOk, OnOk, IfErr, length};
+ghost use Rattle.std.specs.Prelude.{List, ◌≡◌, ◌<◌, ◌≤◌, ◌+◌, ◌++◌, ◌↔◌, [], Some, Err, IfOk, OnOk, IfErr, IsTrue, length, slice_get};
 ghost use Rattle.script_text.specs.Body.{IsLineOf, read_of};
 ghost use Rattle.script_text.specs.Meets.{Meets};
 ghost use Rattle.venue_words.specs.Conditions.{IsConfig};
 ghost use Rattle.venue_words.specs.declared.limits.TheConstants.{MAX_LINE_BYTES};
+ghost use Rattle.session_core.specs.Machine.{IsUp};
+ghost use Rattle.member_gate.specs.Desks.{DeskView};
 ghost use Rattle.script_text.specs.declared.fault.LineFault.{LineFault};
 ghost use Rattle.replay_core.specs.Meets.{MeetsInPlace};
 ghost use Rattle.replay_core.specs.PlayLine.{play_line, play_read};
@@ -21,7 +23,7 @@ use script_text::{Line, LineFault, read_line};
 use std::alloc::Global;
 use std::marker::Model;
 use std::sync::ledger::Ledger;
-use venue_words::{Config, NoMemory, Steps};
+use venue_words::{Config, NoMemory, Report, Steps};
 
 /// Works the lines behind a header, over any floor of one thread.
 pub struct Player<F: PlainFloor> {
@@ -201,6 +203,37 @@ impl<F: PlainFloor> Player<F> {
                 Err(fault)
             }
         }
+    }
+
+    /// The config of the header.
+    pub fn config(&self) -> &Config
+        ensures same { result.now ≡ self.now.worker.config }
+        ensures config { IsConfig result.now }
+    {
+        self.worker.config()
+    }
+
+    /// How many events the book of a symbol has taken.
+    pub fn events(&self, symbol: u32) -> usize
+        requires { symbol < length self.now.worker.config.symbols }
+        ensures { result ≡ length (F.at self.now.floor symbol).journal }
+    {
+        self.floor.events(symbol)
+    }
+
+    /// The reports of a symbol's events.
+    pub fn reports(&self, symbol: u32) -> &[Report]
+        requires { symbol < length self.now.worker.config.symbols }
+        ensures { result.now ≡ (F.at self.now.floor symbol).reports }
+    {
+        self.floor.reports(symbol)
+    }
+
+    /// Whether a member's session is up.
+    pub fn is_up(&self, member: u32) -> bool
+        ensures { (desk : DeskView) → slice_get self.now.worker.desks member ≡ Some desk → (IsTrue result ↔ IsUp desk.session) }
+    {
+        self.worker.is_up(member)
     }
 
     /// What the book of the first symbol came to; all 0 where there is no symbol.

@@ -1,7 +1,7 @@
 -- What the ports of a row have given and taken.
 use Rattle.std.specs.Prelude.{ℕ, Bool, true, false, Option, None, Some, List, [], is_some, slice_get}
 use Rattle.socket_ports.specs.declared.place.Place.{Place}
-use Rattle.live_edge.specs.declared.access.Origin.{Origin}
+use Rattle.live_words.specs.declared.access.Origin.{Origin}
 
 abbrev pub given : Option Place → List ℕ
 given None = []

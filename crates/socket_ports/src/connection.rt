@@ -4,6 +4,7 @@ ghost use Rattle.socket_ports.specs.Reads.{IsWithin};
 
 use crate::door::{Moved, Stream};
 use ports::Came;
+use std::net::SocketAddr;
 
 /// A connection. The system tells only of changes, so what it told stands until a call finds nothing.
 #[derive(Drop)]
@@ -23,6 +24,11 @@ impl Connection {
             writable: true,
             ends: false,
         }
+    }
+
+    /// The address that it came from, if it came from one.
+    pub fn address(&self) -> Option<SocketAddr> {
+        self.stream.address()
     }
 
     /// The system told of a change.

@@ -1,5 +1,4 @@
 //! Where connections are let in.
-use live_edge::address_of;
 use mio::net::{TcpListener, TcpStream, UnixListener, UnixStream};
 use mio::{Interest, Registry, Token};
 use std::fs::{Files, Permissions};
@@ -41,7 +40,7 @@ pub enum Door {
 /// A connection that came in by a door.
 #[derive(Drop)]
 pub enum Stream {
-    Tcp(TcpStream),
+    Tcp(TcpStream, SocketAddr),
     Unix(UnixStream),
 }
 
@@ -107,42 +106,50 @@ impl Door {
         }
     }
 
-    /// The next connection that asks, and the address that it comes from, 0 at a path; `WouldBlock` where none asks.
-    pub(crate) fn accept(&self) -> io::Result<(Stream, u128)> {
+    /// The next connection that asks; `WouldBlock` where none asks.
+    pub(crate) fn accept(&self) -> io::Result<Stream> {
         match self {
             Door::Tcp(listener) => {
                 let (stream, from) = listener.accept()?;
                 stream.set_nodelay(true)?;
-                Ok((Stream::Tcp(stream), address_of(from.ip())))
+                Ok(Stream::Tcp(stream, from))
             }
             Door::Unix(listener) => {
                 let (stream, _) = listener.accept()?;
-                Ok((Stream::Unix(stream), 0))
+                Ok(Stream::Unix(stream))
             }
         }
     }
 }
 
 impl Stream {
+    /// The address that it came from, if it came from one.
+    pub(crate) fn address(&self) -> Option<SocketAddr> {
+        match self {
+            Stream::Tcp(_, from) => Some(*from),
+            Stream::Unix(_) => None,
+        }
+    }
+
     /// Has the system tell when bytes may be read or written.
     pub(crate) fn register(&mut self, registry: &Registry, token: Token) -> io::Result<()> {
         let both = Interest::READABLE | Interest::WRITABLE;
         match self {
-            Stream::Tcp(stream) => registry.register(stream, token, both),
+            Stream::Tcp(stream, _) => registry.register(stream, token, both),
             Stream::Unix(stream) => registry.register(stream, token, both),
         }
     }
 
     pub(crate) fn read(&mut self, room: &mut [u8]) -> Moved {
         outcome_of(match self {
-            Stream::Tcp(stream) => stream.read(room),
+            Stream::Tcp(stream, _) => stream.read(room),
             Stream::Unix(stream) => stream.read(room),
         })
     }
 
     pub(crate) fn write(&mut self, bytes: &[u8]) -> Moved {
         outcome_of(match self {
-            Stream::Tcp(stream) => stream.write(bytes),
+            Stream::Tcp(stream, _) => stream.write(bytes),
             Stream::Unix(stream) => stream.write(bytes),
         })
     }

@@ -7,7 +7,7 @@ use memchr::memchr;
 use ports::Came;
 use std::alloc::{AllocError, Global};
 
-/// The most bytes of a line that an operator may write, and of one that is not yet whole.
+/// The most bytes of a line that an operator may write.
 const MAX_WORD_BYTES: usize = 16_384;
 
 /// The most bytes of answers that wait for an operator who does not read.
@@ -24,6 +24,8 @@ pub struct Operator {
     /// What came and is not yet a whole line that was handed out; what of it was handed out.
     came: Vec<u8>,
     handed: usize,
+    /// How many lines were handed out.
+    lines: u64,
     /// What goes out, and how much of it went.
     out: Vec<u8>,
     sent: usize,
@@ -40,6 +42,7 @@ impl Operator {
             connection: Connection::new(stream),
             came: Vec::new(alloc),
             handed: 0,
+            lines: 0,
             out: Vec::new(alloc),
             sent: 0,
             over: false,
@@ -84,14 +87,29 @@ impl Operator {
         Ok(())
     }
 
+    /// Keeps what came. Of a line that is too long no more is kept than shows that it is.
+    fn take(&mut self, came: &[u8]) -> Result<(), AllocError> {
+        if self.came.len() <= MAX_WORD_BYTES {
+            self.came.extend_from_slice(came)?;
+        } else if let Some(end) = memchr(b'\n', came) {
+            self.came.extend_from_slice(&came[end..])?;
+        }
+        Ok(())
+    }
+
+    /// How many lines were handed out.
+    pub fn lines(&self) -> u64 {
+        self.lines
+    }
+
     /// Reads what is there.
     fn fill(&mut self) -> Result<(), AllocError> {
-        if self.over || self.dead || self.came.len() > MAX_WORD_BYTES {
+        if self.over || self.dead {
             return Ok(());
         }
         let mut room = [0u8; READ_BYTES];
         match self.connection.read(&mut room) {
-            Some(Came::Bytes(count)) => self.came.extend_from_slice(&room[..count])?,
+            Some(Came::Bytes(count)) => self.take(&room[..count])?,
             Some(Came::Nothing) => {}
             Some(Came::End) => self.over = true,
             None => self.dead = true,
@@ -99,15 +117,14 @@ impl Operator {
         Ok(())
     }
 
-    /// Lays the next whole line, without its LF, into `line`, and says whether there was one. Who writes a line that is too
-    /// long is dropped.
+    /// Lays the next whole line, without its LF, into `line`, and says whether there was one. Of a line that is too long its
+    /// beginning is laid there, which is too long as well.
     pub fn word(&mut self, line: &mut Vec<u8>) -> Result<bool, AllocError> {
         if self.end_of_line().is_none() {
             self.keep_rest()?;
             self.fill()?;
         }
         let Some(end) = self.end_of_line() else {
-            self.dead = self.dead || self.came.len() > MAX_WORD_BYTES;
             return Ok(false);
         };
         line.clear();
@@ -116,18 +133,17 @@ impl Operator {
             let _ = line.pop();
         }
         self.handed = end + 1;
+        self.lines = self.lines.saturating_add(1);
         Ok(true)
     }
 
-    /// Answers by whole lines, each with its LF. Who does not read his answers is dropped.
+    /// Answers by whole lines, each with its LF, which wait until `flush`. Who does not read his answers is dropped.
     pub fn answer(&mut self, text: &[u8]) -> Result<(), AllocError> {
         if self.out.len() > MAX_ANSWER_BYTES {
             self.dead = true;
             return Ok(());
         }
-        self.out.extend_from_slice(text)?;
-        self.flush();
-        Ok(())
+        self.out.extend_from_slice(text)
     }
 
     /// Writes what waits, as far as it is taken.

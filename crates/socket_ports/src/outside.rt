@@ -8,11 +8,12 @@ use crate::seats::{MAX_OPERATORS, OPERATORS, Seats};
 use crate::sockets::Sockets;
 use fix_write::push_moment;
 use io_edge::{Clock as _, Failed, RealClock};
-use live_edge::{Origin, Outside};
+use live_edge::Outside;
+use live_words::{Event, Origin, Told};
 use mio::{Events, Token};
 use std::alloc::{AllocError, Global};
 use std::io::Eprint;
-use std::net::Net;
+use std::net::{Net, SocketAddr};
 use std::rt::Clock;
 use std::time::Duration;
 
@@ -33,13 +34,15 @@ fn note_all(seats: &mut Seats, events: &Events)
 }
 
 impl<'a, R: Net + Eprint + Clock> Sockets<'a, R> {
-    /// Waits, and notes what the system tells of.
+    /// Sends operators what was answered, then waits, and notes what the system tells of. The lines of the round before are kept by
+    /// now, so nobody is answered before his line is.
     fn wait_for(&mut self, most_milliseconds: u64) -> Result<(), Failed>
         ensures came { (q : ℕ) → came_in self.new.seats.places.items q ≡ came_in self.old.seats.places.items q }
         ensures went { (q : ℕ) → went_in self.new.seats.places.items q ≡ went_in self.old.seats.places.items q }
         ensures up { (q : ℕ) → up_in self.new.seats.places.items q ≡ up_in self.old.seats.places.items q }
         ensures cause { HasCause self.old.faults self.new.faults result }
     {
+        self.seats.send_answers();
         self.waits = self.waits.wrapping_add(1);
         if self.waits % RETRY_WAITS == 0 {
             self.seats.asks.fill(true);
@@ -83,7 +86,7 @@ fn admit_operators<R: Net + Eprint + Clock>(sockets: &mut Sockets<'_, R>) -> Res
         let Some(index) = sockets.free_operator()? else {
             return Ok(());
         };
-        let Ok((mut stream, _)) = sockets.desk.accept() else {
+        let Ok(mut stream) = sockets.desk.accept() else {
             sockets.seats.desk_asks = false;
             return Ok(());
         };
@@ -112,7 +115,6 @@ fn word_from<R: Net + Eprint + Clock>(
     let mut spoke = false;
     let mut done = false;
     if let Some(operator) = &mut sockets.seats.operators[index] {
-        operator.flush();
         spoke = operator.word(line)?;
         done = !spoke && operator.is_done();
     }
@@ -146,23 +148,52 @@ fn next_word<R: Net + Eprint + Clock>(
     Ok(None)
 }
 
-/// The present moment as the log has it, and a line.
-fn tell<R: Net + Eprint + Clock>(
-    rt: &R,
-    alloc: Global,
-    now: i64,
-    text: &[u8],
-) -> Result<(), AllocError> {
-    let mut line = Vec::new(alloc);
-    if push_moment(&mut line, now).is_err() {
+/// A moment as the log has it, as `2026-12-02T09:30:00.123Z`.
+fn push_log_moment(line: &mut Vec<u8>, alloc: Global, now: i64) -> Result<(), AllocError> {
+    let mut moment = Vec::new(alloc);
+    if push_moment(&mut moment, now).is_err() {
         return Ok(());
     }
-    line.push(b' ')?;
-    line.extend_from_slice(text)?;
-    if let Ok(line) = str::from_utf8(&line) {
-        let _ = eprintln!(rt; "{line}");
+    for (index, byte) in moment.iter().enumerate() {
+        match index {
+            4 | 6 => {
+                line.push(b'-')?;
+                line.push(*byte)?;
+            }
+            8 => line.push(b'T')?,
+            _ => line.push(*byte)?,
+        }
+    }
+    line.push(b'Z')?;
+    Ok(())
+}
+
+/// Tells the log of an event, with the present moment.
+fn tell<R: Net + Eprint + Clock>(rt: &R, alloc: Global, told: &Told<'_>) -> Result<(), AllocError> {
+    let mut line = Vec::new(alloc);
+    push_log_moment(&mut line, alloc, RealClock::new(rt).now())?;
+    if let Ok(moment) = str::from_utf8(&line) {
+        let _ = eprintln!(rt; "{moment} {told}");
     }
     Ok(())
+}
+
+impl<'a, R: Net + Eprint + Clock> Sockets<'a, R> {
+    /// The address of the connection that an event is about, if it came from one.
+    fn source_of(&self, event: Event) -> Option<SocketAddr> {
+        match self.seats.places.get(event.port()?) {
+            Some(place) => place.address(),
+            None => None,
+        }
+    }
+
+    /// The number of the last line of the operator whom an event is about.
+    fn line_of(&self, event: Event) -> Option<u64> {
+        match self.seats.operators.get(event.operator()?) {
+            Some(Some(operator)) => Some(operator.lines()),
+            _ => None,
+        }
+    }
 }
 
 impl<'a, R: Net + Eprint + Clock> Outside for Sockets<'a, R> {
@@ -202,8 +233,17 @@ impl<'a, R: Net + Eprint + Clock> Outside for Sockets<'a, R> {
         }
     }
 
-    fn log(&mut self, text: &[u8]) {
-        let now = RealClock::new(self.rt).now();
-        let _ = tell(self.rt, self.alloc, now, text).is_ok();
+    fn log(&mut self, event: Event) {
+        let rt = self.rt;
+        let alloc = self.alloc;
+        let from = self.source_of(event);
+        let line = self.line_of(event);
+        let told = Told {
+            event,
+            names: &self.names,
+            from,
+            line,
+        };
+        let _ = tell(rt, alloc, &told).is_ok();
     }
 }

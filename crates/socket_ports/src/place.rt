@@ -6,8 +6,9 @@ ghost use Rattle.socket_ports.specs.Flows.{unused};
 
 use crate::connection::Connection;
 use crate::flow::{Flow, Move};
-use live_edge::Origin;
+use live_words::Origin;
 use ports::Came;
+use std::net::SocketAddr;
 
 /// A port.
 #[derive(Drop)]
@@ -15,6 +16,8 @@ pub(crate) struct Place {
     connection: Option<Connection>,
     /// Where the connection came in.
     origin: Origin,
+    /// The address that it came from, if it came from one.
+    from: Option<SocketAddr>,
     flow: Flow,
     /// The other side has said that it sends no more.
     over: bool,
@@ -31,9 +34,14 @@ impl Place {
         ensures over { result.over ≡ false }
         ensures idle { result.idle ≡ true }
     {
+        let from = match &connection {
+            Some(connection) => connection.address(),
+            None => None,
+        };
         Place {
             connection,
             origin,
+            from,
             flow: Flow::new(),
             over: false,
             idle: true,
@@ -45,6 +53,11 @@ impl Place {
         ensures { result ≡ self.now.origin }
     {
         self.origin
+    }
+
+    /// The address that the connection came from, if it came from one.
+    pub(crate) fn address(&self) -> Option<SocketAddr> {
+        self.from
     }
 
     /// The system told of a change.

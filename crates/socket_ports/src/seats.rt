@@ -7,7 +7,7 @@ ghost use Rattle.socket_ports.specs.Places.{came_in, went_in, up_in, over_in, id
 use crate::connection::Connection;
 use crate::operator::Operator;
 use crate::place::Place;
-use live_edge::Origin;
+use live_words::Origin;
 use ports::Came;
 use std::alloc::{AllocError, Global};
 
@@ -66,6 +66,22 @@ impl Seats {
             }
         } else {
             note_port(&mut self.places, token - PORTS, readable, writable, ends);
+        }
+    }
+
+    /// Sends operators what they were answered, as far as they take it.
+    pub(crate) fn send_answers(&mut self)
+        ensures places { self.new.places ≡ self.old.places }
+    {
+        send_all(&mut self.operators);
+    }
+}
+
+/// Sends each operator what he was answered.
+fn send_all(operators: &mut Vec<Option<Operator>>) {
+    for index in 0..operators.len() {
+        if let Some(Some(operator)) = operators.get_mut(index) {
+            operator.flush();
         }
     }
 }

@@ -8,7 +8,7 @@ use crate::door::{Door, Stream};
 use crate::operator::Operator;
 use crate::seats::{DESK, DOORS, PORTS, Seats, read_at, rest, seat, write_at};
 use io_edge::Failed;
-use live_edge::Origin;
+use live_words::{Names, Origin, address_of};
 use mio::{Events, Poll, Token};
 use ports::{Came, Ports};
 use std::alloc::{AllocError, Global};
@@ -30,6 +30,8 @@ pub struct Sockets<'a, R: Net + Eprint> {
     pub(crate) events: Events,
     pub(crate) doors: Vec<Door>,
     pub(crate) desk: Door,
+    /// The names by which the log tells what happens.
+    pub(crate) names: Names,
     pub(crate) seats: Seats,
     /// Waits so far, by which a door that failed is tried again.
     pub(crate) waits: u32,
@@ -41,12 +43,14 @@ pub struct Sockets<'a, R: Net + Eprint> {
 }
 
 impl<'a, R: Net + Eprint> Sockets<'a, R> {
-    /// Over doors that are open: the first for all members, the others by their number for those whom a rule lets in there.
+    /// Over doors that are open: the first for all members, the others by their number for those whom a rule lets in there. The log
+    /// tells what happens by these names.
     pub fn new(
         rt: &'a R,
         alloc: Global,
         mut doors: Vec<Door>,
         mut desk: Door,
+        names: Names,
     ) -> io::Result<Sockets<'a, R>>
         ensures unused { IfOk result (λ sockets. (port : ℕ) → ⟦<Sockets<'a, R> as Ports>⟧.went sockets port ≡ []) }
     {
@@ -63,6 +67,7 @@ impl<'a, R: Net + Eprint> Sockets<'a, R> {
             events: Events::with_capacity(alloc, EVENTS)?,
             doors,
             desk,
+            names,
             seats,
             waits: 0,
             turn: 0,
@@ -89,7 +94,13 @@ impl<'a, R: Net + Eprint> Sockets<'a, R> {
             return Ok(None);
         }
         match self.doors[door].accept() {
-            Ok((stream, address)) => Ok(Some((stream, Origin { door, address }))),
+            Ok(stream) => {
+                let address = match stream.address() {
+                    Some(from) => address_of(from.ip()),
+                    None => 0,
+                };
+                Ok(Some((stream, Origin { door, address })))
+            }
             Err(error) => {
                 self.seats.asks[door] = false;
                 if error.kind() == ErrorKind::WouldBlock {

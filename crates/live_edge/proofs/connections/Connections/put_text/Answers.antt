@@ -1,7 +1,7 @@
 use Rattle.std.proofs.Common.{rules}
 use Rattle.std.proofs.lemmas.Grind.{common_steps}
 use Rattle.std.proofs.Common.{arith}
-use Rattle.live_edge.specs.Lines.{text_of_lines}
+use Rattle.live_words.specs.Lines.{text_of_lines}
 use Rattle.live_edge.proofs.LineLaws.{part_more}
 use Rattle.live_edge.proofs.connections.Connections.put_text.Goals as goal
 

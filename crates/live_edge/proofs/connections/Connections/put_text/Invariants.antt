@@ -1,6 +1,7 @@
 use Rattle.std.proofs.Common.{◌≡◌, ◌≤◌, ◌+◌, ◌++◌, List, ℕ, length}
-use Rattle.live_edge.specs.Joins.{Joined, all_put, frames_of}
-use Rattle.live_edge.specs.Lines.{text_of_lines}
+use Rattle.live_edge.specs.Joins.{Joined, all_put}
+use Rattle.live_words.specs.Frames.{frames_of}
+use Rattle.live_words.specs.Lines.{text_of_lines}
 use Rattle.live_edge.proofs.connections.Connections.put_text.Given as goal
 
 abbrev pub invariant-loop-line : goal.invariant-loop-line

@@ -1,6 +1,7 @@
 use Rattle.std.proofs.Common.{◌≡◌, refl, sym, subst}
 use Rattle.live_edge.specs.Stories.{Story}
-use Rattle.live_edge.specs.Joins.{all_put, frames_of}
+use Rattle.live_edge.specs.Joins.{all_put}
+use Rattle.live_words.specs.Frames.{frames_of}
 use Rattle.live_edge.proofs.edge.LiveEdge.new.Goals as goal
 
 pub invariant_of-result : goal.invariant_of-result

@@ -1,6 +1,7 @@
 use Rattle.std.proofs.Common.{subst}
 use Rattle.live_edge.specs.Edges.{Edged}
-use Rattle.live_edge.specs.Joins.{IsRun, frames_of}
+use Rattle.live_edge.specs.Joins.{IsRun}
+use Rattle.live_words.specs.Frames.{frames_of}
 use Rattle.live_edge.proofs.Joining.{took_run}
 use Rattle.live_edge.proofs.edge.LiveEdge.outside.Goals as goal
 

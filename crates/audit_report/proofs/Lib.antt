@@ -1,0 +1,9 @@
+pub mod Trading
+pub mod Collecting
+pub mod Bucketing
+pub mod Ordering
+pub mod Telling
+pub mod Chaining
+pub mod Parting
+pub mod Reporting
+pub mod Weaving

@@ -1,0 +1,12 @@
+pub mod Cells
+pub mod Parts
+pub mod TradeRows
+pub mod Words
+pub mod Lives
+pub mod Buckets
+pub mod Orders
+pub mod Refusals
+pub mod Sections
+pub mod Gathering
+pub mod Weaving
+pub mod Reports

@@ -1,0 +1,4 @@
+pub mod Finding
+pub mod Pieces
+pub mod Growing
+pub mod Looking

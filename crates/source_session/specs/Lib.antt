@@ -1,0 +1,4 @@
+pub mod Hearing
+pub mod HearingLaws
+pub mod Messages
+pub mod Quotes
